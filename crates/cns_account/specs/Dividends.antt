@@ -16,13 +16,9 @@ due_on p d = filter (is_due (close_before p.days.items) d) p.dividends.items
 
 -- ---- on which position
 
--- one of the days that follows, where it is not after a date
-abbrev pub with_close : Day → Option Day → Day → Option Day
-with_close d last x = if is_not_after x d then Some x else last
-
 -- the last of days that is not after a date
 abbrev pub last_by : Day → List Day → Option Day
-last_by d ds = fold (with_close d) None ds
+last_by d ds = fold (λ last x. if is_not_after x d then Some x else last) None ds
 
 -- the sheet of a closed day, where one is given
 abbrev pub sheet_if_any : State → Option Day → Option DaySheet

@@ -11,10 +11,6 @@ use Rattle.cns_account.specs.declared.fails.Fail.{Fail}
 abbrev pub last_days : ℕ → List Day → List Day
 last_days n ds = drop (length ds - n) ds
 
--- the first of days; a date where there is none
-abbrev pub first_of : Day → List Day → Day
-first_of d ds = unwrap_or (slice_get ds 0) d
-
 -- ---- what was exchanged for an issue
 
 -- whether an issue is among others
@@ -37,28 +33,20 @@ abbrev pub short_move : Account → DaySheet → Cusip → ℤ
 short_move a s c =
     option_map_or (λ r. if int_lt r.opening (pos 0) then moved r else pos 0) (row_at s.rows (record { account = a; issue = c })) (pos 0)
 
--- the same in one issue more, as much of the sum as fits
-abbrev pub with_issue : Account → DaySheet → ℤ → Cusip → ℤ
-with_issue a s z c = int_wrap w128 (z +ℤ short_move a s c)
-
--- in issues, on one closed day more
+-- in issues, on one closed day more, as much of the sum as fits
 abbrev pub with_day : State → Account → List Cusip → ℤ → Day → ℤ
-with_day S a cs z d = option_map_or (λ s. fold (with_issue a s) z cs) (sheet_on S.opening (journal_of S) d) z
-
--- in issues, on closed days, one after another
-abbrev pub price_change : State → Account → List Cusip → List Day → ℤ
-price_change S a cs ds = fold (with_day S a cs) (pos 0) ds
+with_day S a cs z d = option_map_or (λ s. fold (λ z c. int_wrap w128 (z +ℤ short_move a s c)) z cs) (sheet_on S.opening (journal_of S) d) z
 
 -- ---- the rows
 
 -- a short at the last close, on the date, by its row and its age: the first of as many closes as it is old, and what the price did to
--- it after that close, in the issue and in those that were exchanged for it
+-- it after that close, in the issue and in those that were exchanged for it, on one day after another
 abbrev pub fail : State → Past → Day → Row → ℕ → Fail
 fail S p d r n = record {
   row = r;
   age = n;
-  since = first_of d (last_days n p.days.items);
-  change = price_change S r.account (issues_behind p.exchanges.items r.issue) (last_days (n - 1) p.days.items);
+  since = unwrap_or (slice_get (last_days n p.days.items) 0) d;
+  change = fold (with_day S r.account (issues_behind p.exchanges.items r.issue)) (pos 0) (last_days (n - 1) p.days.items);
 }
 
 -- of a fail: closes short, the date of the first of them, opening, closing, price, value, and what the price did

@@ -1,12 +1,8 @@
 -- What the history of a book tells of closed days, exchanges and dividends.
-use Rattle.std.specs.Prelude.{◌≡◌, ◌-◌, ◌^◌, List, Option, Some, None, filter_map, reverse, take}
+use Rattle.std.specs.Prelude.{◌≡◌, List, Option, Some, None, filter_map, reverse}
 use Rattle.cns_account.specs.Common.{Day, exchanged, declared, Declared, Exchange, Activity, Command, Taken, Past}
+pub use Rattle.cns_history.specs.Entries.{looked_at}
 use Rattle.cns_terms.specs.declared.reply.Reply.{Reply}
-
--- the entries of a history that are looked at, the oldest first: all, or all but the last where there are 2^32 - 1, the most that
--- a book takes
-abbrev pub looked_at : List Taken → List Taken
-looked_at H = take (2 ^ 32 - 2) (reverse H)
 
 -- the date of the closed day that a reply tells
 abbrev pub date_told : Reply → Option Day

@@ -1,6 +1,6 @@
 -- The rows of an account's day, and their texts.
 use Rattle.std.specs.Prelude.{ℕ, ℤ, pos, ◌+ℤ◌, ◌-ℤ◌, ◌*ℤ◌, int_lt, List, [], ◌∷◌, ◌++◌, Option, Some, None, if◌then◌else◌}
-use Rattle.cns_account.specs.Common.{int_wrap, row_key, w128, fold, Price, State, Key, Row, standing, worth, Booking, HistoryLine, row_of, filled, ROW, DayMoves, Moved, Moves, Piece, piece_text}
+use Rattle.cns_account.specs.Common.{int_wrap, row_key, w128, fold, Price, State, Row, standing, worth, HistoryLine, row_of, filled, ROW, DayMoves, Moved, Moves, Piece, piece_text}
 use Rattle.std.specs.Fmt.{decimal}
 use Rattle.cns_history.specs.Words.{what_text}
 use Rattle.cns_tables.specs.Escape.{escaped}
@@ -95,14 +95,9 @@ mark_text m =
     ∷ Piece.Amount c.trades ∷ Piece.Amount c.delivered ∷ Piece.Amount c.received ∷ Piece.Amount c.actions ∷ Piece.Amount c.buy_ins
     ∷ Piece.Amount r.mark ∷ Piece.Amount r.money ∷ [])
 
--- the number and the issue of what a record booked
-unfoldable pub begin_text : Booking → List ℕ
-begin_text b = filled BEGIN.now (decimal b.number ∷ escaped b.issue ∷ [])
-
--- its shares, cents and the position after it
-unfoldable pub figures_text : Booking → List ℕ
-figures_text b = filled FIGURES.now (piece_text (Piece.Signed b.shares) ∷ piece_text (Piece.Amount b.cents) ∷ piece_text (Piece.Signed b.position) ∷ [])
-
 -- what a record booked: its number, the issue, what it was, shares, cents and the position after it
 abbrev pub booked_text : Booked → List ℕ
-booked_text x = let b = x.booking in begin_text b ++ (what_text b.account b.activity ++ figures_text b)
+booked_text x =
+    let b = x.booking in
+    filled BEGIN.now (decimal b.number ∷ escaped b.issue ∷ []) ++ (what_text b.account b.activity
+    ++ filled FIGURES.now (piece_text (Piece.Signed b.shares) ∷ piece_text (Piece.Amount b.cents) ∷ piece_text (Piece.Signed b.position) ∷ []))

@@ -1,7 +1,6 @@
 // What records booked for an account.
-ghost use Rattle.std.specs.Prelude.{◌≡◌, IfOk, OnOk, filter_map};
-ghost use Rattle.std.specs.Io.KnownBytes.{Appends};
-ghost use Rattle.cns_account.specs.Rows.{begin_text, booking_in, figures_text};
+ghost use Rattle.std.specs.Prelude.{◌≡◌, IfOk, filter_map};
+ghost use Rattle.cns_account.specs.Rows.{booking_in};
 
 use cns_history::{Booking, HistoryLine, write_what};
 use cns_tables::{Piece, TableRow, write_form};
@@ -39,37 +38,22 @@ pub(crate) fn bookings_in(alloc: Global, lines: &[HistoryLine]) -> Result<Vec<Bo
     Ok(bookings)
 }
 
-// Writes the number and the issue.
-#[tactic(auto, unfolding(crate::specs::Rows::begin_text))]
-fn write_begin<W: Write>(booking: &Booking, writer: &mut W) -> Result<(), WriteFault>
-    ensures { OnOk result (Appends (W.contents writer.old) (W.contents writer.new) (begin_text booking.now)) }
-{
-    let pieces = [Piece::Number(booking.number), Piece::Issue(booking.issue)];
-    write_form(BEGIN, &pieces, writer)
-}
-
-// Writes shares, cents and position.
-#[tactic(auto, unfolding(crate::specs::Rows::figures_text))]
-fn write_figures<W: Write>(booking: &Booking, writer: &mut W) -> Result<(), WriteFault>
-    ensures { OnOk result (Appends (W.contents writer.old) (W.contents writer.new) (figures_text booking.now)) }
-{
-    let pieces = [
-        Piece::Signed(booking.shares),
-        Piece::Amount(booking.cents),
-        Piece::Signed(booking.position),
-    ];
-    write_form(FIGURES, &pieces, writer)
-}
-
 impl TableRow for Booked {
     ghost use Rattle.cns_account.specs.Rows.{booked_text};
 
     ghost text = { booked_text };
 
+    #[tactic(auto, using(cns_tables::proofs::Written::after))]
     fn write_row<W: Write>(&self, writer: &mut W) -> Result<(), WriteFault> {
         let booking = &self.booking;
-        write_begin(booking, writer)?;
+        let begin = [Piece::Number(booking.number), Piece::Issue(booking.issue)];
+        let figures = [
+            Piece::Signed(booking.shares),
+            Piece::Amount(booking.cents),
+            Piece::Signed(booking.position),
+        ];
+        write_form(BEGIN, &begin, writer)?;
         write_what(booking.account, &booking.activity, writer)?;
-        write_figures(booking, writer)
+        write_form(FIGURES, &figures, writer)
     }
 }

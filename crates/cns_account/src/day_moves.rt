@@ -6,7 +6,7 @@ ghost use Rattle.cns_account.specs.Past.{looked_at};
 
 use crate::moves::Moves;
 use cns_feed::ReplayBook;
-use cns_history::HistoryLine;
+use cns_history::{HistoryLine, entries_of};
 use cns_terms::{Activity, Command, Entry, Key, NoMemory, Pend, Reply, Taken, Trade};
 use cns_units::Day;
 use std::alloc::Global;
@@ -110,7 +110,6 @@ fn settled_by(entry: &Taken, before: &Option<Day>, day: Day) -> Option<Trade>
 }
 
 // What the trades that settled on a day moved.
-#[tactic(auto, using(crate::proofs::Gathered::entries_end))]
 fn settled(
     alloc: Global,
     book: &ReplayBook,
@@ -120,10 +119,7 @@ fn settled(
     ensures { IfOk result (AreMoves before.now day (looked_at book.now.log.history) []) }
 {
     let mut moves = DayMoves::nothing(alloc);
-    for place in 1..u32::MAX {
-        let Some(entry) = book.entry(place) else {
-            return Ok(moves);
-        };
+    for entry in entries_of(book) {
         moves.add_taken(&entry, before, day)?;
     }
     Ok(moves)

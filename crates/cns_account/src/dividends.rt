@@ -1,10 +1,10 @@
 // What the dividends that a close pays bring an account.
-ghost use Rattle.std.specs.Prelude.{◌≡◌, ◌++◌, filter, filter_map, IfOk, length, OnOk, option_map, pos, take};
+ghost use Rattle.std.specs.Prelude.{◌≡◌, ◌++◌, filter_map, IfOk, OnOk, option_map, pos};
 ghost use Rattle.std.specs.List.{fold};
 ghost use Rattle.cns_terms.specs.Dividends.{is_due};
 ghost use Rattle.cns_book.specs.Log.{state_of};
-ghost use Rattle.cns_sheets.specs.Payments.{closing_at, member_cash};
-ghost use Rattle.cns_account.specs.Dividends.{close_before, dividends_paid, due_on, last_by, less_cash, paid_in, paid_of, paid_on, sheet_if_any, tells, with_close};
+ghost use Rattle.cns_sheets.specs.Payments.{member_cash};
+ghost use Rattle.cns_account.specs.Dividends.{close_before, dividends_paid, due_on, last_by, less_cash, paid_in, paid_of, paid_on, sheet_if_any, tells};
 
 use crate::fails::sheet_of;
 use crate::moves::wrapped_difference;
@@ -28,23 +28,17 @@ pub struct PaidDividend {
     pub cents: Cents,
 }
 
-// The last one of closes, or one that follows, where that is not after a date.
-fn with_close(last: Option<Day>, day: Day, date: Day) -> Option<Day>
-    ensures { result ≡ with_close date last day }
-{
-    if day.number() <= date.number() {
-        Some(day)
-    } else {
-        last
-    }
-}
-
 // The last of days that is not after a date.
 fn last_by(days: &[Day], date: Day) -> Option<Day>
     ensures { result ≡ last_by date days.now }
 {
-    days.iter()
-        .fold(None, |last, day| with_close(last, *day, date))
+    days.iter().fold(None, |last, day| {
+        if day.number() <= date.number() {
+            Some(*day)
+        } else {
+            last
+        }
+    })
 }
 
 // The last but one of days.
@@ -71,20 +65,13 @@ fn due_on(alloc: Global, past: &Past, date: Day) -> Result<Vec<Declared>, NoMemo
     ensures { IfOk result (λ v. v.items ≡ due_on past.now date) }
 {
     let last = close_before(past.days.as_slice());
-    let mut due = Vec::new(alloc);
-    due.extend_from_slice(past.dividends.as_slice())?;
-    due.retain(|declared| is_due(last, date, declared));
+    let due = past
+        .dividends
+        .iter()
+        .copied()
+        .filter(|declared| is_due(last, date, declared))
+        .collect(alloc)?;
     Ok(due)
-}
-
-// An account's closing position on a sheet.
-fn closing_at(sheet: &Sheet<Global>, key: Key) -> i64
-    ensures { result ≡ closing_at sheet.now.rows key }
-{
-    match sheet.row(key) {
-        Some(row) => row.closing,
-        None => 0,
-    }
 }
 
 // The cash of a dividend on a row of the sheet of its record date, which only a member's row in the issue has.
@@ -97,20 +84,13 @@ fn member_cash(declared: &Declared, row: &Row) -> Cents
     cash(row.closing, declared.rate)
 }
 
-// Less the cash on a row.
-fn less_cash(cents: Cents, declared: &Declared, row: &Row) -> Cents
-    ensures { result ≡ less_cash declared.now cents row.now }
-{
-    wrapped_difference(cents, member_cash(declared, row))
-}
-
 // The opposite of what a dividend pays all members.
 fn against_members(declared: &Declared, sheet: &Sheet<Global>) -> Cents
     ensures { result ≡ fold (less_cash declared.now) (pos 0) sheet.now.rows }
 {
-    sheet
-        .rows()
-        .fold(Cents::ZERO, |cents, row| less_cash(cents, declared, &row))
+    sheet.rows().fold(Cents::ZERO, |cents, row| {
+        wrapped_difference(cents, member_cash(declared, &row))
+    })
 }
 
 // What a dividend pays an account, by the sheet as of its record date.
@@ -118,7 +98,10 @@ fn paid_on(sheet: &Sheet<Global>, account: Account, declared: &Declared) -> Paid
     ensures { result ≡ paid_on account sheet.now declared.now }
 {
     let issue = declared.issue;
-    let position = closing_at(sheet, Key { account, issue });
+    let position = match sheet.row(Key { account, issue }) {
+        Some(row) => row.closing,
+        None => 0,
+    };
     let cents = if account == Account::CORPORATION {
         against_members(declared, sheet)
     } else {

@@ -1,9 +1,8 @@
 // Since when an account's shorts are short, and what the price did to them.
-ghost use Rattle.std.specs.Prelude.{◌≡◌, ◌||◌, IfOk, OnOk, option_map};
-ghost use Rattle.std.specs.List.{fold};
+ghost use Rattle.std.specs.Prelude.{◌≡◌, IfOk, OnOk, option_map};
 ghost use Rattle.cns_terms.specs.Common.{journal_of, sheet_on};
 ghost use Rattle.cns_book.specs.Log.{state_of};
-ghost use Rattle.cns_account.specs.Fails.{fail, fail_cells, first_of, is_among, issues_behind, last_days, price_change, short_move, with_day, with_exchange, with_issue};
+ghost use Rattle.cns_account.specs.Fails.{fail, fail_cells, is_among, issues_behind, last_days, short_move, with_day, with_exchange};
 
 use crate::mark::price_move;
 use crate::moves::wrapped_sum;
@@ -35,16 +34,6 @@ fn last_days(days: &[Day], count: usize) -> &[Day]
     ensures { result.now ≡ last_days count days.now }
 {
     &days[days.len().saturating_sub(count)..]
-}
-
-// The first of days; a date where there is none.
-fn first_of(days: &[Day], date: Day) -> Day
-    ensures { result ≡ first_of date days.now }
-{
-    match days.first() {
-        Some(day) => *day,
-        None => date,
-    }
 }
 
 // Whether an issue is among others.
@@ -92,15 +81,6 @@ fn short_move(sheet: &Sheet<Global>, account: Account, issue: Cusip) -> Cents
     }
 }
 
-// With what a day's prices did to those in issues.
-fn with_issues(sum: Cents, account: Account, issues: &[Cusip], sheet: &Sheet<Global>) -> Cents
-    ensures { result ≡ fold (with_issue account sheet.now) sum issues.now }
-{
-    issues.iter().fold(sum, |sum, issue| {
-        wrapped_sum(sum, short_move(sheet, account, *issue))
-    })
-}
-
 // The sheet of a closed day.
 pub(crate) fn sheet_of(book: &ReplayBook, date: Day) -> Option<&Sheet<Global>>
     ensures { option_map (λ s. s.now) result
@@ -115,18 +95,11 @@ fn with_day(sum: Cents, book: &ReplayBook, account: Account, issues: &[Cusip], d
     ensures { result ≡ with_day (state_of book.now.log) account issues.now sum day }
 {
     match sheet_of(book, day) {
-        Some(sheet) => with_issues(sum, account, issues, sheet),
+        Some(sheet) => issues.iter().fold(sum, |sum, issue| {
+            wrapped_sum(sum, short_move(sheet, account, *issue))
+        }),
         None => sum,
     }
-}
-
-// What the prices of closed days did to an account's shorts in issues.
-fn price_change(book: &ReplayBook, account: Account, issues: &[Cusip], days: &[Day]) -> Cents
-    ensures { result ≡ price_change (state_of book.now.log) account issues.now days.now }
-{
-    days.iter().fold(Cents::ZERO, |sum, day| {
-        with_day(sum, book, account, issues, *day)
-    })
 }
 
 /// A member's short at a book's last close, on the date, by its row of the day's sheet and by its age.
@@ -146,8 +119,13 @@ pub fn fail_of(
     Ok(Fail {
         row: *row,
         age,
-        since: first_of(last_days(days, age as usize), date),
-        change: price_change(book, row.account, issues.as_slice(), after),
+        since: last_days(days, age as usize)
+            .first()
+            .copied()
+            .unwrap_or(date),
+        change: after.iter().fold(Cents::ZERO, |sum, day| {
+            with_day(sum, book, row.account, issues.as_slice(), *day)
+        }),
     })
 }
 

@@ -5,6 +5,7 @@ ghost use Rattle.cns_terms.specs.declared.history.Taken.{Taken};
 ghost use Rattle.cns_account.specs.Past.{IsGathered, IsPast, closed_by, dividend_of, exchange_of, looked_at};
 
 use cns_feed::ReplayBook;
+use cns_history::entries_of;
 use cns_terms::{Activity, Command, Declared, Exchange, NoMemory, Reply, Taken};
 use cns_units::Day;
 use std::alloc::Global;
@@ -75,7 +76,6 @@ fn add_entry(past: &mut Past, entry: &Taken) -> Result<(), NoMemory>
 }
 
 // The same, with the exchanges in the order in which they were taken.
-#[tactic(auto, using(crate::proofs::Gathered::entries_end))]
 fn gather(alloc: Global, book: &ReplayBook) -> Result<Past, NoMemory>
     ensures { IfOk result (IsGathered (looked_at book.now.log.history)) }
 {
@@ -84,10 +84,7 @@ fn gather(alloc: Global, book: &ReplayBook) -> Result<Past, NoMemory>
         exchanges: Vec::new(alloc),
         dividends: Vec::new(alloc),
     };
-    for place in 1..u32::MAX {
-        let Some(entry) = book.entry(place) else {
-            return Ok(past);
-        };
+    for entry in entries_of(book) {
         add_entry(&mut past, &entry)?;
     }
     Ok(past)

@@ -18,26 +18,18 @@ pub struct Totals {
 }
 
 // With a row more.
-fn with_row(totals: &Totals, row: &AccountRow) -> Totals
-    ensures { result ≡ with_row totals.now row.now }
+fn with_row(totals: Totals, row: &AccountRow) -> Totals
+    ensures { result ≡ with_row totals row.now }
 {
     let value = worth(&row.row);
-    let net = wrapped_sum(totals.net, value);
+    let mut totals = totals;
+    totals.net = wrapped_sum(totals.net, value);
     if row.row.closing < 0 {
-        let short = wrapped_sum(totals.short, value);
-        Totals {
-            short,
-            net,
-            ..*totals
-        }
+        totals.short = wrapped_sum(totals.short, value);
     } else {
-        let long = wrapped_sum(totals.long, value);
-        Totals {
-            long,
-            net,
-            ..*totals
-        }
+        totals.long = wrapped_sum(totals.long, value);
     }
+    totals
 }
 
 /// What rows of an account add up to.
@@ -49,5 +41,5 @@ pub(crate) fn totals_of(rows: &[AccountRow]) -> Totals
         short: Cents::ZERO,
         net: Cents::ZERO,
     };
-    rows.iter().fold(none, |totals, row| with_row(&totals, row))
+    rows.iter().fold(none, with_row)
 }

@@ -1,4 +1,5 @@
 pub mod Limits
+pub mod Passed
 pub mod Owned
 pub mod Adding
 pub mod Common

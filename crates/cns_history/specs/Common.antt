@@ -2,7 +2,6 @@
 pub use Rattle.cns_book.specs.Shown.{notice_shown, position_shown}
 pub use Rattle.cns_feed.specs.Line.{Line}
 pub use Rattle.cns_feed.specs.Output.{state_after, state_after_line}
-pub use Rattle.cns_history.specs.declared.everywhere.Stood.{Stood}
 pub use Rattle.cns_history.specs.declared.line.Booking.{Booking}
 pub use Rattle.cns_history.specs.declared.line.Closing.{Closing}
 pub use Rattle.cns_history.specs.declared.line.HistoryLine.{HistoryLine}

@@ -1,6 +1,6 @@
 pub mod Common
 pub mod Lines
-pub mod Small
+pub mod Entries
 pub mod Words
 pub mod Texts
 pub mod Page

@@ -1,6 +1,6 @@
 -- The lines of a history: what each record booked at a place, and the closes; or what it booked at all places of some accounts.
 use Rattle.std.specs.Prelude.{ℕ, ◌+◌, pos, ◌-ℤ◌, Bool, true, false, ◌&&◌, ◌==◌, if◌then◌else◌, List, [], ◌∷◌, ◌++◌, filter, filter_map, flat_map, map, Option, Some, None, Ok, is_some, slice_get, option_and_then, option_map, unwrap_or}
-use Rattle.cns_history.specs.Common.{Account, Cusip, Day, State, answer, corporation, date, is_same_day, journal_of, next, sheet_on, Activity, Key, Row, notice_shown, position_shown, Line, state_after_line, Stood, Booking, Closing, HistoryLine, Watched}
+use Rattle.cns_history.specs.Common.{Account, Cusip, Day, State, answer, corporation, date, is_same_day, journal_of, next, sheet_on, Activity, Key, Row, notice_shown, position_shown, Line, state_after_line, Booking, Closing, HistoryLine, Watched}
 use Rattle.std.specs.List.{range_with_len}
 use Rattle.std.specs.Option.{option_map_or, option_to_list}
 use Rattle.std.specs.Ordering.{int_eq}
@@ -107,10 +107,6 @@ both w a b c = map (λ a. place a c) (filter (is_wanted w) (named a b))
 abbrev pub each : Whose → State → List Cusip → List Key
 each w S cs = flat_map (λ a. map (place a) cs) (accounts_of w S (slice_get cs 0))
 
--- the issue of the notice with a number, if there is one
-abbrev pub noticed : State → ℕ → List Cusip
-noticed S k = option_to_list (option_map (λ n. n.issue) (notice_shown S k))
-
 -- the places that an activity names and can book at; a close books at others
 abbrev pub places : Whose → State → Activity → List Key
 places w S (Activity.Trade t) = both w t.buyer t.seller t.issue
@@ -118,20 +114,20 @@ places w S (Activity.Deliver m) = both w corporation m.member m.issue
 places w S (Activity.Receive m) = both w corporation m.member m.issue
 places w S (Activity.Split s) = each w S (s.issue ∷ [])
 places w S (Activity.Exchange x) = each w S (x.old ∷ x.successor ∷ [])
-places w S (Activity.Execute x) = each w S (noticed S x.notice)
+places w S (Activity.Execute x) = each w S (option_to_list (option_map (λ n. n.issue) (notice_shown S x.notice)))
 places w S _ = []
 
 -- what stands at a place
-abbrev pub stood : State → Key → Stood
-stood S k = record { key = k; holding = standing S k }
+abbrev pub stood : State → Key → Key × Holding
+stood S k = (k, standing S k)
 
 -- what a close found there, of the state after it: the position at the last close, and no cents of the day that it opened
-abbrev pub opened_since : State → Key → Stood
-opened_since T k = let h = standing T k in record { key = k; holding = record h { now = h.opening; contract = pos 0 } }
+abbrev pub opened_since : State → Key → Key × Holding
+opened_since T k = let h = standing T k in (k, record h { now = h.opening; contract = pos 0 })
 
 -- the line of what an activity booked since something stood at a place, in the state after it
-abbrev pub booked_since : ℕ → State → Activity → Stood → Option HistoryLine
-booked_since n T x s = booked (booking s.key n (date T.opening (journal_of T)) x s.holding (standing T s.key))
+abbrev pub booked_since : ℕ → State → Activity → Key × Holding → Option HistoryLine
+booked_since n T x s = booked (booking s.0 n (date T.opening (journal_of T)) x s.1 (standing T s.0))
 
 -- the issues that were listed when the day with the date was closed
 abbrev pub issues_on : State → Day → List Cusip
@@ -139,7 +135,7 @@ issues_on S d = option_map_or (λ s. map (λ e. e.0) s.prices) (sheet_on S.openi
 
 -- the lines of an activity that got a reply, in the state after it: what it booked at the places where something stood before it, or
 -- what a close booked in each issue
-abbrev pub bookings_since : Whose → ℕ → State → Activity → Reply → List Stood → List HistoryLine
+abbrev pub bookings_since : Whose → ℕ → State → Activity → Reply → List (Key × Holding) → List HistoryLine
 bookings_since w n T x (Reply.Closed c) before = filter_map (λ k. booked_since n T x (opened_since T k)) (each w T (issues_on T c.date))
 bookings_since w n T x _ before = filter_map (booked_since n T x) before
 

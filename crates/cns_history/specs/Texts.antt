@@ -9,17 +9,11 @@ use Rattle.cns_history.specs.declared.line.TheConstants.{BEGIN, CLOSE, FIGURES}
 unfoldable pub worth : Row → ℤ
 worth r = r.closing *ℤ pos r.price
 
--- the number and the date of what a record booked
-unfoldable pub begin_text : Booking → List ℕ
-begin_text b = filled BEGIN.now (decimal b.number ∷ day_text b.date ∷ [])
-
--- its figures
-unfoldable pub figures_text : Booking → List ℕ
-figures_text b = filled FIGURES.now (signed_text b.shares ∷ amount_text b.cents ∷ signed_text b.position ∷ amount_text b.money ∷ [])
-
 -- what a record booked: its number, date, what it was, shares, cents, the position after it and the money since the last close
-abbrev pub booking_text : Booking → List ℕ
-booking_text b = begin_text b ++ (what_text b.account b.activity ++ figures_text b)
+unfoldable pub booking_text : Booking → List ℕ
+booking_text b =
+    filled BEGIN.now (decimal b.number ∷ day_text b.date ∷ []) ++ (what_text b.account b.activity
+    ++ filled FIGURES.now (signed_text b.shares ∷ amount_text b.cents ∷ signed_text b.position ∷ amount_text b.money ∷ []))
 
 -- a close: its number, date and day, the position, the settling money, price, value, mark, closes short and dividend
 unfoldable pub closing_text : Closing → List ℕ

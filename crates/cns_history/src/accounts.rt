@@ -1,8 +1,7 @@
 // The accounts that have a position.
-ghost use Rattle.std.specs.Prelude.{◌≡◌, ◌∷◌, [], IfOk};
+ghost use Rattle.std.specs.Prelude.{◌≡◌, IfOk};
 ghost use Rattle.cns_book.specs.Log.{state_of};
 ghost use Rattle.cns_history.specs.Lines.{accounts_in, accounts_of, has_position};
-ghost use Rattle.cns_history.specs.declared.watched.Whose.TheVariants as whose;
 
 use crate::watched::Whose;
 use cns_feed::ReplayBook;
@@ -38,18 +37,8 @@ pub fn accounts_in(alloc: Global, book: &ReplayBook, issue: Cusip) -> Result<Vec
     Ok(accounts)
 }
 
-// The accounts that have a position in an issue, if there is one.
-fn all_in(alloc: Global, book: &ReplayBook, issue: Option<Cusip>) -> Result<Vec<Account>, NoMemory>
-    ensures { IfOk result (λ v. v.items ≡ accounts_of whose.All (state_of book.now.log) issue) }
-{
-    match issue {
-        Some(issue) => accounts_in(alloc, book, issue),
-        None => Ok(Vec::new(alloc)),
-    }
-}
-
 /// The accounts whose bookings in some issues are wanted, of which the first is given, if there is one.
-pub(crate) fn accounts_of(
+pub fn accounts_of(
     alloc: Global,
     book: &ReplayBook,
     whose: &Whose,
@@ -57,17 +46,9 @@ pub(crate) fn accounts_of(
 ) -> Result<Vec<Account>, NoMemory>
     ensures { IfOk result (λ v. v.items ≡ accounts_of whose.now (state_of book.now.log) first) }
 {
-    match whose {
-        Whose::One(account) => one(alloc, *account),
-        Whose::All => all_in(alloc, book, first),
+    match (whose, first) {
+        (Whose::One(account), _) => Ok(vec![in alloc; *account]?),
+        (Whose::All, Some(issue)) => accounts_in(alloc, book, issue),
+        (Whose::All, None) => Ok(Vec::new(alloc)),
     }
-}
-
-// An account alone.
-fn one(alloc: Global, account: Account) -> Result<Vec<Account>, NoMemory>
-    ensures { IfOk result (λ v. v.items ≡ account ∷ []) }
-{
-    let mut accounts = Vec::new(alloc);
-    accounts.push(account)?;
-    Ok(accounts)
 }

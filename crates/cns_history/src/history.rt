@@ -1,8 +1,6 @@
 // The page of a history: a head, the table of its lines, and a foot.
-ghost use Rattle.std.specs.Prelude.{◌≡◌, List, OnOk, option_map};
+ghost use Rattle.std.specs.Prelude.{◌≡◌, List, OnOk};
 ghost use Rattle.std.specs.Io.KnownBytes.{Appends};
-ghost use Rattle.cns_book.specs.Log.{state_of};
-ghost use Rattle.cns_book.specs.Shown.{position_shown};
 ghost use Rattle.cns_feed.specs.Line.{Line};
 ghost use Rattle.cns_history.specs.Page.{IsTold, ShowsHistory, day_option, foot_text, head_text, page_text};
 
@@ -12,7 +10,6 @@ use crate::table::HISTORY;
 use cns_feed::ReplayBook;
 use cns_shell::Fault;
 use cns_tables::{Piece, START, Table, hand_on, page_style, write_form, write_table};
-use cns_terms::Key;
 use cns_units::{Day, WriteFault};
 use std::io::Write;
 
@@ -102,25 +99,6 @@ fn write_foot<W: Write>(place: &Place, writer: &mut W) -> Result<(), WriteFault>
     write_form(FOOT_END, &pieces, writer)
 }
 
-// The position at a key now, in shares; None where a POSITION would be refused.
-fn position(book: &ReplayBook, key: &Key) -> Option<i64>
-    ensures { result ≡ option_map (λ h. h.now) (position_shown (state_of book.now.log) key.now) }
-{
-    let holding = book.position(key.account, key.issue)?;
-    Some(holding.now)
-}
-
-// Whether a POSITION of the place would be refused, and why.
-fn check_place(book: &ReplayBook, key: &Key) -> Result<(), Fault> {
-    if position(book, key).is_some() {
-        Ok(())
-    } else if book.price(key.issue).is_none() {
-        Err(Fault::NoSuchIssue)
-    } else {
-        Err(Fault::NoSuchMember)
-    }
-}
-
 // Writes the page of what records came to, with a table for the lines.
 fn write_text<W: Write>(
     table: &Table,
@@ -131,7 +109,8 @@ fn write_text<W: Write>(
     ensures { (all : List Line) → IsTold place.now all told.now
         → OnOk result (Appends (W.contents writer.old) (W.contents writer.new) (page_text table.now place.now all)) }
 {
-    let position = position(told.book, &place.key);
+    let holding = told.book.position(place.key.account, place.key.issue);
+    let position = holding.map(|holding| holding.now);
     write_head(place, told.records, position, writer)?;
     write_table(table, told.lines, writer)?;
     write_foot(place, writer)
@@ -145,7 +124,13 @@ pub fn write_history<W: Write>(place: &Place, told: &Told<'_>, writer: &mut W) -
     ensures { (all : List Line) → IsTold place.now all told.now
         → OnOk result (ShowsHistory place.now all (W.contents writer.old) (W.contents writer.new)) }
 {
-    check_place(told.book, &place.key)?;
+    let key = &place.key;
+    if told.book.price(key.issue).is_none() {
+        return Err(Fault::NoSuchIssue);
+    }
+    if told.book.position(key.account, key.issue).is_none() {
+        return Err(Fault::NoSuchMember);
+    }
     write_text(&HISTORY, place, told, writer)?;
     hand_on(writer)?;
     Ok(())

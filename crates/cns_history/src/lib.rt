@@ -8,7 +8,7 @@
 #![tactic(auto)]
 
 mod accounts;
-mod booked;
+mod entries;
 mod everywhere;
 mod history;
 pub mod laws;
@@ -20,10 +20,11 @@ mod told;
 mod watched;
 mod words;
 
-pub use accounts::accounts_in;
-pub use booked::lines_for;
+pub use accounts::{accounts_in, accounts_of};
+pub use entries::{Entries, entries_of};
+pub use everywhere::issues_of;
 pub use history::{Told, write_history};
-pub use line::{Booking, Closing, HistoryLine, worth};
+pub use line::{Booking, Closing, HistoryLine, lines_for, worth};
 pub use place::Place;
 pub use play::take_watched;
 pub use told::{shares_between, standing};

@@ -1,12 +1,14 @@
 // The lines of a history.
-ghost use Rattle.std.specs.Prelude.{◌≡◌, OnOk};
+ghost use Rattle.std.specs.Prelude.{◌≡◌, IfOk, OnOk, filter};
 ghost use Rattle.std.specs.Io.KnownBytes.{Appends};
-ghost use Rattle.cns_history.specs.Texts.{begin_text, booking_text, closing_text, figures_text, worth};
+ghost use Rattle.cns_history.specs.Lines.{is_line_of};
+ghost use Rattle.cns_history.specs.Texts.{booking_text, closing_text, worth};
 
 use crate::words::write_what;
 use cns_tables::{Piece, TableRow, cents_of, write_form};
-use cns_terms::{Activity, Row};
+use cns_terms::{Activity, NoMemory, Row};
 use cns_units::{Account, Cents, Cusip, Day, WriteFault};
+use std::alloc::Global;
 use std::io::Write;
 
 /// What a record booked at a place.
@@ -69,36 +71,21 @@ pub fn worth(row: &Row) -> Cents
     Cents::of(row.price.worth(row.closing))
 }
 
-// Writes the number and the date.
-#[tactic(auto, unfolding(crate::specs::Texts::begin_text))]
-fn write_begin<W: Write>(booking: &Booking, writer: &mut W) -> Result<(), WriteFault>
-    ensures { OnOk result (Appends (W.contents writer.old) (W.contents writer.new) (begin_text booking.now)) }
+// Writes the number and the date, what it was, and shares, cents, position and money.
+#[tactic(auto, unfolding(crate::specs::Texts::booking_text), using(cns_tables::proofs::Written::after))]
+fn write_booking<W: Write>(booking: &Booking, writer: &mut W) -> Result<(), WriteFault>
+    ensures { OnOk result (Appends (W.contents writer.old) (W.contents writer.new) (booking_text booking.now)) }
 {
-    let pieces = [Piece::Number(booking.number), Piece::Date(booking.date)];
-    write_form(BEGIN, &pieces, writer)
-}
-
-// Writes shares, cents, position and money.
-#[tactic(auto, unfolding(crate::specs::Texts::figures_text))]
-fn write_figures<W: Write>(booking: &Booking, writer: &mut W) -> Result<(), WriteFault>
-    ensures { OnOk result (Appends (W.contents writer.old) (W.contents writer.new) (figures_text booking.now)) }
-{
-    let pieces = [
+    let begin = [Piece::Number(booking.number), Piece::Date(booking.date)];
+    let figures = [
         Piece::Signed(booking.shares),
         Piece::Amount(booking.cents),
         Piece::Signed(booking.position),
         Piece::Amount(booking.money),
     ];
-    write_form(FIGURES, &pieces, writer)
-}
-
-#[tactic(auto, using(cns_tables::proofs::Written::after))]
-fn write_booking<W: Write>(booking: &Booking, writer: &mut W) -> Result<(), WriteFault>
-    ensures { OnOk result (Appends (W.contents writer.old) (W.contents writer.new) (booking_text booking.now)) }
-{
-    write_begin(booking, writer)?;
+    write_form(BEGIN, &begin, writer)?;
     write_what(booking.account, &booking.activity, writer)?;
-    write_figures(booking, writer)
+    write_form(FIGURES, &figures, writer)
 }
 
 // Writes the number, the date, the day, position, settling money, price, value, mark, closes short and dividend.
@@ -123,6 +110,7 @@ fn write_closing<W: Write>(closing: &Closing, writer: &mut W) -> Result<(), Writ
 }
 
 impl TableRow for HistoryLine {
+    ghost use Rattle.cns_history.specs.Lines.{is_line_of};
     ghost use Rattle.cns_history.specs.Texts.{line_text};
 
     ghost text = { line_text };
@@ -133,4 +121,23 @@ impl TableRow for HistoryLine {
             HistoryLine::Closing(closing) => write_closing(closing, writer),
         }
     }
+}
+
+/// Those among some lines that are an account's, in order.
+pub fn lines_for(
+    alloc: Global,
+    account: Account,
+    lines: &[HistoryLine],
+) -> Result<Vec<HistoryLine>, NoMemory>
+    ensures { IfOk result (λ v. v.items ≡ filter (is_line_of account) lines.now) }
+{
+    let own = lines
+        .iter()
+        .copied()
+        .filter(|line| match line {
+            HistoryLine::Booking(booking) => booking.account == account,
+            HistoryLine::Closing(closing) => closing.row.account == account,
+        })
+        .collect(alloc)?;
+    Ok(own)
 }

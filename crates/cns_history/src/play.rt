@@ -2,13 +2,12 @@
 ghost use Rattle.std.specs.Prelude.{◌≡◌, ◌++◌, [], if◌then◌else◌, IfOk, OnOk, Ok};
 ghost use Rattle.cns_terms.specs.Common.{answer};
 ghost use Rattle.cns_book.specs.Log.{state_of};
-ghost use Rattle.cns_terms.specs.declared.command.Command.TheVariants as command;
 ghost use Rattle.cns_feed.specs.Replay.{log_after_line};
-ghost use Rattle.cns_history.specs.Lines.{bookings_at, is_movement, is_on, is_open, lines_at, lines_of};
+ghost use Rattle.cns_history.specs.Lines.{bookings_at, is_movement, is_on, lines_at, lines_of};
 
 use crate::everywhere::{add_booked, before};
 use crate::line::HistoryLine;
-use crate::told::{Answered, add_lines, standing};
+use crate::told::{Answered, Stood, add_lines};
 use crate::watched::{Watched, Whose};
 use cns_feed::{ReplayBook, ReplayFault};
 use cns_terms::{Activity, Command, Key, Reply, Worker};
@@ -27,44 +26,17 @@ fn take_at(
     ensures lines { OnOk result (lines.new.items
         ≡ lines.old.items ++ lines_at key.now number (state_of book.old.log) (Ok command.now)) }
 {
-    let before = standing(book, key);
-    let receipt = book.take(Worker::FIRST, *command)?;
-    match command {
-        Command::Activity(activity) => {
-            let answered = Answered {
-                number,
-                activity: *activity,
-                reply: receipt.reply,
-            };
-            add_lines(book, key, &answered, &before, lines)?;
-            Ok(answered.reply)
-        }
-        Command::Position(_) | Command::Statement { .. } => Ok(receipt.reply),
+    let before = Stood::at(book, key);
+    let reply = book.take(Worker::FIRST, *command)?.reply;
+    if let Command::Activity(activity) = command {
+        let answered = Answered {
+            number,
+            activity: *activity,
+            reply,
+        };
+        add_lines(book, &answered, &before, lines)?;
     }
-}
-
-// Takes an activity, and adds what it booked at all places of some accounts.
-fn take_activity(
-    book: &mut ReplayBook,
-    whose: &Whose,
-    number: u64,
-    activity: &Activity,
-    lines: &mut Vec<HistoryLine>,
-) -> Result<Reply, ReplayFault>
-    ensures log { OnOk result (book.new.log ≡ log_after_line book.old.log (Ok (command.Activity activity.now))) }
-    ensures reply { IfOk result (λ r. r ≡ answer (state_of book.old.log) (command.Activity activity.now)) }
-    ensures lines { OnOk result (lines.new.items
-        ≡ lines.old.items ++ bookings_at whose.now number (state_of book.old.log) (Ok (command.Activity activity.now))) }
-{
-    let before = before(*lines.allocator(), book, whose, activity)?;
-    let receipt = book.take(Worker::FIRST, Command::Activity(*activity))?;
-    let answered = Answered {
-        number,
-        activity: *activity,
-        reply: receipt.reply,
-    };
-    add_booked(book, whose, &answered, before.as_slice(), lines)?;
-    Ok(answered.reply)
+    Ok(reply)
 }
 
 // Takes a command, and adds what it booked at all places of some accounts, where that is wanted of the record.
@@ -83,20 +55,18 @@ fn take_for(
 {
     match command {
         Command::Activity(activity) if is_wanted => {
-            take_activity(book, whose, number, activity, lines)
+            let before = before(*lines.allocator(), book, whose, activity)?;
+            let reply = book.take(Worker::FIRST, *command)?.reply;
+            let answered = Answered {
+                number,
+                activity: *activity,
+                reply,
+            };
+            add_booked(book, whose, &answered, before.as_slice(), lines)?;
+            Ok(reply)
         }
-        _ => {
-            let receipt = book.take(Worker::FIRST, *command)?;
-            Ok(receipt.reply)
-        }
+        _ => Ok(book.take(Worker::FIRST, *command)?.reply),
     }
-}
-
-// Whether the day with the date is open.
-fn is_open(book: &ReplayBook, day: Day) -> bool
-    ensures { result ≡ is_open (state_of book.now.log) day }
-{
-    book.today() == day
 }
 
 // Whether what a command books is booked on the day with the date: what a close books, on the day that it opens.
@@ -105,7 +75,7 @@ fn is_on(book: &ReplayBook, command: &Command, day: Day) -> bool
 {
     match command {
         Command::Activity(Activity::Close(next)) => *next == day,
-        _ => is_open(book, day),
+        _ => book.today() == day,
     }
 }
 
@@ -150,7 +120,7 @@ pub fn take_watched(
             take_for(book, whose, is_wanted, number, command, lines)
         }
         Watched::Movements(day) => {
-            let is_wanted = is_open(book, *day) && is_movement(command);
+            let is_wanted = book.today() == *day && is_movement(command);
             take_for(book, &Whose::All, is_wanted, number, command, lines)
         }
     }

@@ -2,13 +2,15 @@
 ghost use Rattle.std.specs.Prelude.{◌≡◌, ◌++◌, ◌-ℤ◌, ◌≤◌, OnOk, option_map, option_to_list, unsigned_abs};
 ghost use Rattle.cns_terms.specs.Limits.{amount_limit, corporation_limit};
 ghost use Rattle.cns_book.specs.Log.{state_of};
-ghost use Rattle.cns_history.specs.Lines.{booked, booking, closing, counted_from, is_nothing, lines_told, row_on, standing};
+ghost use Rattle.cns_terms.specs.Common.{date, journal_of};
+ghost use Rattle.cns_history.specs.Lines.{booked, booked_since, booking, closing, counted_from, is_nothing, lines_told, opened_since, row_on, standing, stood};
 ghost use Rattle.cns_history.specs.declared.line.HistoryLine.TheVariants as line;
 
 use crate::line::{Booking, Closing, HistoryLine};
 use cns_feed::ReplayBook;
 use cns_terms::{Activity, Holding, Key, NoMemory, Reply, Row};
 use cns_units::{Cents, Day};
+use std::marker::Model;
 
 /// A record's activity that was answered.
 #[derive(Clone, Copy)]
@@ -17,6 +19,28 @@ pub(crate) struct Answered {
     pub(crate) number: u64,
     pub(crate) activity: Activity,
     pub(crate) reply: Reply,
+}
+
+/// An account's place in an issue, with what stood there. It is within the limits of a book, so that no difference of two wraps.
+#[derive(Clone, Copy)]
+pub(crate) struct Stood {
+    key: Key,
+    holding: Holding,
+}
+
+impl Model for Stood {
+    ghost use Rattle.std.specs.Prelude.{◌≤◌, unsigned_abs};
+    ghost use Rattle.cns_terms.specs.Limits.{amount_limit, corporation_limit};
+    ghost use Rattle.cns_terms.specs.declared.holding.Holding.{Holding};
+    ghost use Rattle.cns_terms.specs.declared.holding.Key.{Key};
+
+    ghost Value = { Key × Holding };
+
+    ghost view = { λ s. (s.key, s.holding) };
+
+    ghost invariant = { λ s. (unsigned_abs s.holding.now ≤ corporation_limit) × (unsigned_abs s.holding.contract ≤ amount_limit) };
+
+    ghost inverse = { λ v. record { key = v.0; holding = v.1 } };
 }
 
 /// What stands at a key now; zeros where a POSITION would be refused.
@@ -32,19 +56,40 @@ pub fn standing(book: &ReplayBook, key: &Key) -> Holding
         .unwrap_or(Holding::ZEROS)
 }
 
-// What the shares and cents of an activity are counted from: a close ends the day's cents.
-fn counted_from(before: &Holding, reply: &Reply) -> Holding
-    requires cents { unsigned_abs before.now.contract ≤ amount_limit }
-    ensures value { result ≡ counted_from before.entry.now reply.now }
-    ensures shares { result.now ≡ before.entry.now.now }
-    ensures cents { unsigned_abs result.contract ≤ amount_limit }
-{
-    match reply {
-        Reply::Closed(_) => Holding {
-            contract: Cents::ZERO,
-            ..*before
-        },
-        _ => *before,
+impl Stood {
+    /// What stands at a place.
+    pub(crate) fn at(book: &ReplayBook, key: &Key) -> Stood
+        ensures { result ≡ stood (state_of book.now.log) key.now }
+    {
+        let holding = standing(book, key);
+        Stood { key: *key, holding }
+    }
+
+    /// What a close found there, of the book after it: the position at the last close, and no cents of the day that it opened.
+    pub(crate) fn opened(book: &ReplayBook, key: Key) -> Stood
+        ensures { result ≡ opened_since (state_of book.now.log) key }
+    {
+        let holding = standing(book, &key);
+        Stood {
+            key,
+            holding: Holding {
+                now: holding.opening,
+                contract: Cents::ZERO,
+                ..holding
+            },
+        }
+    }
+
+    // What the shares and cents of an activity are counted from: a close ends the day's cents.
+    fn counted_from(&self, reply: &Reply) -> Stood
+        ensures { result ≡ (self.now.0, counted_from self.now.1 reply.now) }
+    {
+        let key = self.key;
+        let mut holding = self.holding;
+        if let Reply::Closed(_) = reply {
+            holding.contract = Cents::ZERO;
+        }
+        Stood { key, holding }
     }
 }
 
@@ -66,21 +111,17 @@ fn cents_between(from: Cents, to: Cents) -> Cents
     Cents::of(to.value() - from.value())
 }
 
-/// What an activity booked at a key, on a date.
-pub(crate) fn booking_of(
-    date: Day,
-    key: &Key,
-    answered: &Answered,
-    from: &Holding,
-    to: &Holding,
-) -> Booking
-    requires from { (unsigned_abs from.now.now ≤ corporation_limit) × (unsigned_abs from.now.contract ≤ amount_limit) }
-    requires to { (unsigned_abs to.now.now ≤ corporation_limit) × (unsigned_abs to.now.contract ≤ amount_limit) }
-    ensures { result ≡ booking key.now answered.now.number date answered.now.activity from.entry.now to.entry.now }
+// What an activity booked since something stood at a place, by the book after it.
+fn booking_since(book: &ReplayBook, answered: &Answered, from: &Stood) -> Booking
+    ensures { result ≡ booking from.now.0 answered.now.number (date book.now.log.opening (journal_of (state_of book.now.log)))
+        answered.now.activity from.now.1 (standing (state_of book.now.log) from.now.0) }
 {
+    let key = &from.key;
+    let from = &from.holding;
+    let to = standing(book, key);
     Booking {
         number: answered.number,
-        date,
+        date: book.today(),
         account: key.account,
         issue: key.issue,
         activity: answered.activity,
@@ -123,8 +164,8 @@ fn closing_of(book: &ReplayBook, key: &Key, answered: &Answered) -> Option<Closi
     })
 }
 
-/// Adds the line of a close, if there is one, and that of what was booked, if it is anything.
-pub(crate) fn add(
+// Adds the line of a close, if there is one, and that of what was booked, if it is anything.
+fn add(
     closing: Option<Closing>,
     booking: &Booking,
     lines: &mut Vec<HistoryLine>,
@@ -143,23 +184,35 @@ pub(crate) fn add(
     Ok(())
 }
 
-/// Adds the lines of an activity that was answered, by the book after it and by what stood at the key before it.
+/// Adds the line of what an activity booked since something stood at a place, by the book after it, if it is anything.
+pub(crate) fn add_since(
+    book: &ReplayBook,
+    answered: &Answered,
+    from: &Stood,
+    lines: &mut Vec<HistoryLine>,
+) -> Result<(), NoMemory>
+    ensures { OnOk result (lines.new.items ≡ lines.old.items
+        ++ option_to_list (booked_since answered.now.number (state_of book.now.log) answered.now.activity from.now)) }
+{
+    let booking = booking_since(book, answered, from);
+    add(None, &booking, lines)
+}
+
+/// Adds the lines of an activity that was answered, by the book after it and by what stood at a place before it: that of a close,
+/// which ends the day's cents, and that of what was booked.
 ///
 /// `NoMemory` where an allocation failed; some of the lines may be there then.
 pub(crate) fn add_lines(
     book: &ReplayBook,
-    key: &Key,
     answered: &Answered,
-    before: &Holding,
+    before: &Stood,
     lines: &mut Vec<HistoryLine>,
 ) -> Result<(), NoMemory>
-    requires shares { unsigned_abs before.now.now ≤ corporation_limit }
-    requires cents { unsigned_abs before.now.contract ≤ amount_limit }
     ensures { OnOk result (lines.new.items ≡ lines.old.items
-        ++ lines_told (state_of book.now.log) key.now answered.now.number answered.now.activity before.entry.now answered.now.reply) }
+        ++ lines_told (state_of book.now.log) before.now.0 answered.now.number answered.now.activity before.now.1 answered.now.reply) }
 {
-    let from = counted_from(before, &answered.reply);
-    let to = standing(book, key);
-    let booking = booking_of(book.today(), key, answered, &from, &to);
-    add(closing_of(book, key, answered), &booking, lines)
+    let from = before.counted_from(&answered.reply);
+    let closing = closing_of(book, &from.key, answered);
+    let booking = booking_since(book, answered, &from);
+    add(closing, &booking, lines)
 }

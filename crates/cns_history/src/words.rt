@@ -1,11 +1,11 @@
 // What booked, in the field's words.
 ghost use Rattle.std.specs.Prelude.{OnOk};
 ghost use Rattle.std.specs.Io.KnownBytes.{Appends};
-ghost use Rattle.cns_history.specs.Words.{exchange_text, party_text, split_text, trade_text, what_text};
+ghost use Rattle.cns_history.specs.Words.{exchange_text, trade_text, what_text};
 
 use cns_tables::{Piece, write_form, write_markup};
 use cns_terms::{Activity, Exchange, Trade};
-use cns_units::{Account, Member, Ratio, WriteFault};
+use cns_units::{Account, WriteFault};
 use std::io::Write;
 
 // A trade, as the account sees it: from whom it bought, or to whom it sold.
@@ -38,26 +38,6 @@ fn write_trade<W: Write>(account: Account, trade: &Trade, writer: &mut W) -> Res
     }
 }
 
-// Some words and the member whose movement it was.
-fn write_party<W: Write>(
-    form: &'static str,
-    member: Member,
-    writer: &mut W,
-) -> Result<(), WriteFault>
-    ensures { OnOk result (Appends (W.contents writer.old) (W.contents writer.new) (party_text form.now member)) }
-{
-    write_form(form, &[Piece::Number(u64::from(member.value()))], writer)
-}
-
-// So many new shares for so many old ones.
-fn write_split<W: Write>(ratio: Ratio, writer: &mut W) -> Result<(), WriteFault>
-    ensures { OnOk result (Appends (W.contents writer.old) (W.contents writer.new) (split_text ratio)) }
-{
-    let (new, old) = ratio.parts();
-    let pieces = [Piece::Number(u64::from(new)), Piece::Number(u64::from(old))];
-    write_form(SPLIT, &pieces, writer)
-}
-
 fn write_exchange<W: Write>(exchange: &Exchange, writer: &mut W) -> Result<(), WriteFault>
     ensures { OnOk result (Appends (W.contents writer.old) (W.contents writer.new) (exchange_text exchange.now)) }
 {
@@ -83,9 +63,19 @@ pub fn write_what<W: Write>(
 {
     match activity {
         Activity::Trade(trade) => write_trade(account, trade, writer),
-        Activity::Deliver(movement) => write_party(DELIVERED, movement.member, writer),
-        Activity::Receive(movement) => write_party(RECEIVED, movement.member, writer),
-        Activity::Split(split) => write_split(split.ratio, writer),
+        Activity::Deliver(movement) => {
+            let member = Piece::Number(u64::from(movement.member.value()));
+            write_form(DELIVERED, &[member], writer)
+        }
+        Activity::Receive(movement) => {
+            let member = Piece::Number(u64::from(movement.member.value()));
+            write_form(RECEIVED, &[member], writer)
+        }
+        Activity::Split(split) => {
+            let (new, old) = split.ratio.parts();
+            let pieces = [Piece::Number(u64::from(new)), Piece::Number(u64::from(old))];
+            write_form(SPLIT, &pieces, writer)
+        }
         Activity::Exchange(exchange) => write_exchange(exchange, writer),
         Activity::Execute(execution) => {
             let notice = Piece::Number(u64::from(execution.notice));

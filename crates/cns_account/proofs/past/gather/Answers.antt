@@ -1,10 +1,10 @@
-use Rattle.cns_account.proofs.Common.{◌≡◌, ◌∙◌, ◌-◌, ◌^◌, arith, sym}
-use Rattle.cns_account.proofs.Gathered.{entry_more}
+use Rattle.cns_account.proofs.Common.{append-nil, append_assoc, arith, ◌≡◌, looked_at, subst, IsGathered}
 use Rattle.cns_account.proofs.past.gather.Goals as goal
 
-pub loop-place-preserved : goal.loop-place-preserved
-loop-place-preserved c =
-    rw (entry_more c.args.book.now.log.history c.loop-place.place c.in-Some.entry c.loop-place.auto.place (sym c.entry.ensures ∙ c.in-Some.is)) at (c.in_ok-add_entry.ensures _ c.loop-place.invariant)
+pub loop-entry-preserved : goal.loop-entry-preserved
+loop-entry-preserved c = (c.in_ok-add_entry.ensures _ c.loop-entry.invariant.0, grind (arith, append_assoc, c.loop-entry.invariant.1, c.in-Some.ensures.steps))
 
 pub returns : goal.returns
-returns c = let last : c.loop-place.place - 1 ≡ 2 ^ 32 - 2 = omega arith in rw (last) at c.loop-place.invariant
+returns c =
+    let all : c.loop-entry.yielded ≡ looked_at c.args.book.now.log.history = grind (arith, append-nil, c.loop-entry.invariant.1, c.in-None.ensures.steps.0, c.into_iter-entry-iterator.ensures.into_iter_gives) in
+    subst (λ ts. IsGathered ts c.loop-entry.past) all c.loop-entry.invariant.0

@@ -1,5 +1,5 @@
-use Rattle.cns_account.proofs.Common.{◌-◌, reverse, take, IsGathered}
+use Rattle.cns_account.proofs.Common.{◌≡◌, ◌++◌, IsGathered}
 use Rattle.cns_account.proofs.past.gather.Given as goal
 
-abbrev pub invariant-loop-place : goal.invariant-loop-place
-invariant-loop-place l = IsGathered (take (l.place - 1) (reverse l.book.log.history)) l.past
+abbrev pub invariant-loop-entry : goal.invariant-loop-entry
+invariant-loop-entry l = IsGathered l.yielded l.past × (l.initial.entry-iterator ≡ l.yielded ++ l.entry-iterator)
