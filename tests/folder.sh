@@ -29,8 +29,8 @@ run() {
 
 # A page without the links that a page in a folder has.
 unlinked() {
-    sed -e '/^<li><a href=2.*\.html>The \(day before\|next day\)<\/a>$/d' -e '/^<li><details><summary>Accounts without a row/,/^<\/details>$/d' -e '/^<nav aria-label=Pages>.*\.html>All accounts on this day<\/a><\/ul><\/nav>$/d' \
-        -e 's/<a href=[0-9-]*\.html>\([0-9]*\)<\/a>/\1/' "$1"
+    sed -e '/^<li><a href=2.*\.html>The \(day before\|next day\)<\/a>$/d' -e '/^<li><details><summary>The accounts/,/^<\/details>$/d' \
+        -e '/^<nav aria-label=Pages>.*\.html>All accounts on this day<\/a><\/ul><\/nav>$/d' "$1"
 }
 
 # The files that links of a folder's pages lead to.

@@ -1,9 +1,4 @@
 pub mod Gathered
-pub mod Figured
 pub mod CommandLine
-pub mod PlayLemmas
-pub mod Numbering
-pub mod Later
-pub mod SoughtLemmas
 pub mod MakeLemmas
 pub mod Common

@@ -4,10 +4,10 @@ use Rattle.cns_page.proofs.Common.{◌≡◌, ◌+◌, ℕ, List, [], ◌∷◌,
 use Rattle.cns_history.specs.Page.{IsTold}
 use Rattle.cns_history.specs.declared.history.Told.{Told}
 use Rattle.cns_history.specs.declared.place.Place.{Place}
-use Rattle.cns_page.proofs.PlayLemmas.{noted_records}
+use Rattle.cns_exceptions.proofs.PlayLemmas.{noted_records}
 use Rattle.cns_page.specs.Asked.{HasPage, HasPlayed}
 use Rattle.cns_page.specs.declared.asked.Asked.{Asked}
-use Rattle.cns_page.specs.declared.play.Played.{Played}
+use Rattle.cns_exceptions.specs.declared.play.Played.{Played}
 
 -- each record is counted
 counted : (k : Known) (S : State) (ls : List Line) → (noted_all k S ls).records ≡ k.records + length ls
@@ -27,5 +27,5 @@ past_closed p input d c t is came closed = record { all = take c.number (lines_o
 
 -- of all that a reader gave, where that is known
 pub made_of : {T E : Type 0} (a : Asked) (given : Option (List ℕ)) (input : List ℕ) (old new : Option (List ℕ)) (r : Result T E)
-    → IfSome given (λ bytes. input ≡ bytes) → OnOk r (HasPage a input old new) → OnOk r (IfSome given (λ bytes. HasPage a bytes old new))
+    → IfSome given (λ bytes. input ≡ bytes) → OnOk r (HasPage a.about a input old new) → OnOk r (IfSome given (λ bytes. HasPage a.about a bytes old new))
 made_of a given input old new r is page = grind arith

@@ -1,12 +1,15 @@
 -- The page that is asked for.
-use Rattle.std.specs.Prelude.{◌≡◌, ◌-◌, ℕ, List, length, slice_get, take, Option, None, Some, false, option_map}
-use Rattle.cns_page.specs.Common.{Account, Day, DaySheet, opened, Line, lines_of, About, Asked, When, ClosedDay, Played, Shared, Close, Survey, Watched, Whose}
+use Rattle.std.specs.Prelude.{◌≡◌, ◌-◌, ℕ, Bool, List, [], length, slice_get, take, Option, None, Some, true, false, option_map}
+use Rattle.cns_page.specs.Common.{Account, Appends, Day, opened, Line, lines_of, About, Asked, When, ClosedDay, Played, Close, Survey, Watched, Whose}
 use Rattle.cns_history.specs.Page.{ShowsHistory}
 use Rattle.cns_history.specs.declared.place.Place.{Place}
-use Rattle.cns_page.specs.Account.{ShowsAccount}
-use Rattle.cns_page.specs.Shown.{AreShared, HasDay, IsClosedDay, IsSheetOf}
-use Rattle.cns_page.specs.Survey.{ComesTo, IsClosedBy, known, noted_all, nothing}
-use Rattle.cns_page.specs.Today.{HasToday}
+use Rattle.cns_page.specs.Account.{IsOwnPage}
+use Rattle.cns_page.specs.Closed.{IsClosedDay}
+use Rattle.cns_page.specs.Files.{KeptPages}
+use Rattle.cns_page.specs.Folder.{KeepsDay}
+use Rattle.cns_page.specs.Page.{IsDayPage}
+use Rattle.cns_exceptions.specs.Survey.{ComesTo, IsClosedBy, known, noted_all, nothing}
+use Rattle.cns_page.specs.Today.{IsTodayPage}
 
 -- the date of the last day that the records of an input close
 pub record IsLastDay (opening : Day) (input : List ℕ) (day : Day) : Type 0 where
@@ -20,30 +23,34 @@ IsClosedIn opening input When.Last day = IsLastDay opening input day
 IsClosedIn opening input (When.Closed d) day = day ≡ d
 IsClosedIn opening input When.Today day = ⊥
 
--- the page of the closed day that is asked for
-abbrev pub HasClosed : Day → List ℕ → When → Option (List ℕ) → Option (List ℕ) → Type 0
-HasClosed opening input w old new = (day : Day) × IsClosedIn opening input w day × HasDay opening input day old new
+-- what is watched for what is asked for, on the day with the date
+abbrev pub watched_for : About → Day → Watched
+watched_for (About.Account a) d = Watched.Bookings (Whose.One a) d
+watched_for About.Folder d = Watched.Bookings Whose.All d
+watched_for _ d = Watched.Movements d
 
--- of the day that is asked for
-abbrev pub HasAsked : Day → List ℕ → When → Option (List ℕ) → Option (List ℕ) → Type 0
-HasAsked opening input When.Today old new = HasToday opening input old new
-HasAsked opening input w old new = HasClosed opening input w old new
+-- whether pages are for a folder
+abbrev pub is_folder : About → Bool
+is_folder About.Folder = true
+is_folder _ = false
 
--- what was written is the page of what a closed day did to an account, by itself
-pub record WritesOwn (a : Account) (d : ClosedDay) (old new : Option (List ℕ)) : Type 0 where
-  pub sheet : DaySheet
-  pub closed : IsSheetOf d sheet
-  pub shared : Shared
-  pub gathered : AreShared d sheet shared
-  pub shown : ShowsAccount d sheet a false d.lines.items shared old new
+-- the closed day that is asked for
+abbrev pub IsAskedDay : Asked → List ℕ → ClosedDay → Type 0
+IsAskedDay asked input d = (day : Day) × IsClosedIn asked.opening input asked.day day
+    × IsClosedDay asked.opening input day (watched_for asked.about day) (is_folder asked.about) d
 
--- what the closed day that is asked for did to an account
-pub record HasOwn (a : Account) (opening : Day) (input : List ℕ) (w : When) (old new : Option (List ℕ)) : Type 0 where
-  pub day : Day
-  pub asked : IsClosedIn opening input w day
-  pub closed : ClosedDay
-  pub is : IsClosedDay opening input day (Watched.Bookings (Whose.One a) day) closed
-  pub written : WritesOwn a closed old new
+-- a text is the page of all accounts of the closed day that is asked for
+abbrev pub IsClosedPage : Asked → List ℕ → List ℕ → Type 0
+IsClosedPage asked input text = (d : ClosedDay) × IsAskedDay asked input d × IsDayPage d [] text
+
+-- of the day that is asked for, closed or open
+abbrev pub IsAllPage : When → Asked → List ℕ → List ℕ → Type 0
+IsAllPage When.Today asked input text = IsTodayPage asked.opening input text
+IsAllPage w asked input text = IsClosedPage asked input text
+
+-- a text is that of an account
+abbrev pub IsAccountPage : Account → Asked → List ℕ → List ℕ → Type 0
+IsAccountPage a asked input text = (d : ClosedDay) × IsAskedDay asked input d × IsOwnPage d a text
 
 -- the records that a history is of: those up to the close of the day with the date, or all of the input where none is given
 abbrev pub AreUpTo : Day → List ℕ → Option Day → List Line → Type 0
@@ -66,14 +73,15 @@ abbrev pub closed_in : When → Option Day
 closed_in (When.Closed d) = Some d
 closed_in _ = None
 
--- what is asked for: the page of the day, what the closed day did to the account, or the history of the place; nothing where pages
--- went into a folder
-abbrev pub HasShown : About → Day → List ℕ → When → Option (List ℕ) → Option (List ℕ) → Type 0
-HasShown About.All opening input w old new = HasAsked opening input w old new
-HasShown (About.Account a) opening input w old new = HasOwn a opening input w old new
-HasShown (About.Place k) opening input w old new = HasPast (record { opening = opening; day = closed_in w; key = k }) input old new
-HasShown About.Folder opening input w old new = new ≡ old
+-- what was written of the records of an input: the page of the day, of all accounts or of one, or the history of the place; nothing
+-- where pages went into a folder
+abbrev pub HasPage : About → Asked → List ℕ → Option (List ℕ) → Option (List ℕ) → Type 0
+HasPage (About.Place k) asked input old new = HasPast (record { opening = asked.opening; day = closed_in asked.day; key = k }) input old new
+HasPage About.Folder asked input old new = new ≡ old
+HasPage About.All asked input old new = (text : List ℕ) × IsAllPage asked.day asked input text × Appends old new text
+HasPage (About.Account a) asked input old new = (text : List ℕ) × IsAccountPage a asked input text × Appends old new text
 
--- the page that is asked for, of the records of an input
-abbrev pub HasPage : Asked → List ℕ → Option (List ℕ) → Option (List ℕ) → Type 0
-HasPage asked input old new = HasShown asked.about asked.opening input asked.day old new
+-- what was kept of them: the pages of the closed day where they are for a folder, else nothing
+abbrev pub HasKept : About → Asked → List ℕ → Option KeptPages → Option KeptPages → Type 0
+HasKept About.Folder asked input old new = (d : ClosedDay) × IsAskedDay asked input d × KeepsDay d old new
+HasKept _ asked input old new = new ≡ old

@@ -1,17 +1,13 @@
 -- The names of the files of a folder.
-use Rattle.std.specs.Prelude.{ℕ, List, [], ◌∷◌, ◌++◌, Option, None, Some, option_map}
-use Rattle.cns_page.specs.Common.{decimal, day_text, Account, filled}
+use Rattle.std.specs.Prelude.{ℕ, List, [], ◌∷◌, ◌++◌, Option, option_map}
+use Rattle.cns_page.specs.Common.{day_text, filled}
+use Rattle.cns_page.specs.Foot.{account_part}
 use Rattle.cns_page.specs.declared.files.Named.{Named}
 use Rattle.cns_page.specs.declared.files.TheConstants.{OF_ACCOUNT, OF_DAY}
 
--- what stands in a name for the account, where the page is one's
-abbrev pub account_part : Option Account → List ℕ
-account_part None = []
-account_part (Some a) = filled OF_ACCOUNT.now (decimal a ∷ [])
-
 -- a file's name with its end: the date, and the account
 abbrev pub name_text : Named → List ℕ → List ℕ
-name_text n end = filled OF_DAY.now (day_text n.date ∷ []) ++ (account_part n.account ++ end)
+name_text n end = filled OF_DAY.now (day_text n.date ∷ []) ++ (account_part OF_ACCOUNT.now n.account ++ end)
 
 -- pages with their names
 abbrev pub KeptPages : Type 0

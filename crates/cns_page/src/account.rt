@@ -1,20 +1,17 @@
 // The page of an account's closed day: a head, tables in a fixed order, and a foot.
-ghost use Rattle.std.specs.Prelude.{◌≡◌, OnOk};
+ghost use Rattle.std.specs.Prelude.{◌≡◌, IfOk, OnOk};
 ghost use Rattle.std.specs.Io.KnownBytes.{Appends};
-ghost use Rattle.cns_page.specs.Account.{ShowsAccount, account_text, again_of, head_text, nav_text, row_counts, tables_text};
+ghost use Rattle.cns_page.specs.Account.{IsOwnPage, account_text, head_text, nav_text, row_counts, tables_text};
 ghost use Rattle.cns_page.specs.Page.{sum_of};
 
 use crate::captions::{LIABLE, NOTICES, PROJECTION};
-use crate::closed::Page;
+use crate::closed::ClosedDay;
 use crate::contents::sum_of;
-use crate::foot::{write_again, write_made};
+use crate::foot::write_foot;
 use crate::own::{Own, own_of};
-use crate::shared::Shared;
-use crate::survey::Close;
-use cns_account::{AccountDay, BOOKINGS, DIVIDENDS, FAILS, MARKS, POSITIONS};
-use cns_history::HistoryLine;
-use cns_shell::Fault;
-use cns_tables::{Piece, START, Table, hand_on, page_style, write_form, write_markup, write_table};
+use cns_account::{BOOKINGS, DIVIDENDS, FAILS, MARKS, POSITIONS};
+use cns_tables::{Piece, START, Table, page_style, write_form, write_markup, write_table};
+use cns_terms::NoMemory;
 use cns_units::{Account, Day, WriteFault};
 use std::alloc::Global;
 use std::io::Write;
@@ -100,40 +97,37 @@ const MAIN: &str = "</header>
 <main id=main>
 ";
 
-const ACCOUNT_OPTION: &str = " --account _";
-
 // Writes the account and the day, what the positions are worth, mark and dividends, and the next day.
 #[tactic(auto, unfolding(crate::specs::Account::head_text))]
 fn write_head<W: Write>(
     account: Account,
-    close: &Close,
-    day: &AccountDay,
-    next: Day,
+    day: &ClosedDay,
+    own: &Own<'_>,
     writer: &mut W,
 ) -> Result<(), WriteFault>
-    ensures { OnOk result (Appends (W.contents writer.old) (W.contents writer.new) (head_text account close.now day.now next)) }
+    ensures { OnOk result (Appends (W.contents writer.old) (W.contents writer.new) (head_text account day.now own.now)) }
 {
     let number = u64::from(account.value());
+    let date = day.close.date;
     let pieces = [
         Piece::Markup(START),
         Piece::Number(number),
-        Piece::Date(close.date),
+        Piece::Date(date),
         Piece::Markup(page_style()),
         Piece::Number(number),
-        Piece::Date(close.date),
-        Piece::Number(u64::from(close.day)),
-        Piece::Amount(day.totals.long),
-        Piece::Amount(day.totals.short),
-        Piece::Amount(day.totals.net),
-        Piece::Amount(day.stated.mark),
-        Piece::Amount(day.stated.dividend),
-        Piece::Date(next),
+        Piece::Date(date),
+        Piece::Number(u64::from(day.close.day)),
+        Piece::Amount(own.day.totals.long),
+        Piece::Amount(own.day.totals.short),
+        Piece::Amount(own.day.totals.net),
+        Piece::Amount(own.day.stated.mark),
+        Piece::Amount(own.day.stated.dividend),
+        Piece::Date(day.played.book.today()),
     ];
     write_form(HEAD, &pieces, writer)
 }
 
 // Writes the link to the page of the day, where the page stands in a folder with it, and the end of the head.
-#[tactic(auto, unfolding(crate::specs::Account::nav_text))]
 fn write_nav<W: Write>(is_linked: bool, date: Day, writer: &mut W) -> Result<(), WriteFault>
     ensures { OnOk result (Appends (W.contents writer.old) (W.contents writer.new) (nav_text is_linked date)) }
 {
@@ -182,59 +176,44 @@ fn rows_of(own: &Own<'_>) -> u64
     ])
 }
 
-// Writes the line that makes the page again, but for its end.
+// Writes the page with some captions.
 #[tactic(auto, using(cns_tables::proofs::Written::after))]
-fn write_again_of<W: Write>(
-    opening: Day,
-    date: Day,
-    account: Account,
-    writer: &mut W,
-) -> Result<(), WriteFault>
-    ensures { OnOk result (Appends (W.contents writer.old) (W.contents writer.new) (again_of opening date account)) }
-{
-    let account = Piece::Number(u64::from(account.value()));
-    write_again(opening, Some(date), writer)?;
-    write_form(ACCOUNT_OPTION, &[account], writer)
-}
-
-// Writes the page with some captions, and hands it on.
-fn write_whole<W: Write>(
+fn write_text<W: Write>(
     captions: &OwnCaptions,
     account: Account,
-    page: &Page<'_>,
+    day: &ClosedDay,
     own: &Own<'_>,
     writer: &mut W,
 ) -> Result<(), WriteFault>
-    ensures { OnOk result (Appends (W.contents writer.old) (W.contents writer.new)
-        (account_text captions.now page.now.day.now account page.now.is_linked own.now)) }
+    ensures { OnOk result (Appends (W.contents writer.old) (W.contents writer.new) (account_text captions.now account day.now own.now)) }
 {
-    let day = page.day;
     let date = day.close.date;
-    write_head(account, &day.close, &own.day, day.book.today(), writer)?;
-    write_nav(page.is_linked, date, writer)?;
+    let rows = rows_of(own);
+    write_head(account, day, own, writer)?;
+    write_nav(day.is_linked, date, writer)?;
     write_tables(captions, own, writer)?;
-    write_again_of(day.opening, date, account, writer)?;
-    write_made(&day.origin, rows_of(own), writer)?;
-    hand_on(writer)
+    write_foot(
+        day.opening,
+        Some(date),
+        Some(account),
+        &day.origin,
+        rows,
+        writer,
+    )
 }
 
-/// Writes the page of what a closed day did to an account, by the rows of the page of the day and by the lines of what the day's
-/// records booked for the account, and hands it on.
-///
-/// `NoMemory` where an allocation failed, and `Write` where the writer fails, takes no byte or cannot be flushed.
-/// What was written before stands.
-pub fn write_account<W: Write>(
+/// The page of what a closed day did to an account, by what was watched for it on the day.
+pub(crate) fn own_page(
     alloc: Global,
     account: Account,
-    page: &Page<'_>,
-    shared: &Shared,
-    lines: &[HistoryLine],
-    writer: &mut W,
-) -> Result<(), Fault>
-    ensures { OnOk result (ShowsAccount page.now.day.now page.now.sheet.now account page.now.is_linked lines.now shared.now
-        (W.contents writer.old) (W.contents writer.new)) }
+    day: &ClosedDay,
+) -> Result<Vec<u8>, NoMemory>
+    ensures { IfOk result (λ v. IsOwnPage day.now account v.items) }
 {
-    let own = own_of(alloc, account, page, shared, lines)?;
-    write_whole(&TABLES, account, page, &own, writer)?;
-    Ok(())
+    let own = own_of(alloc, account, day)?;
+    let mut page = Vec::new(alloc);
+    match write_text(&TABLES, account, day, &own, &mut page) {
+        Ok(()) => Ok(page),
+        Err(_) => Err(NoMemory),
+    }
 }

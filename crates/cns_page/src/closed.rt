@@ -1,20 +1,41 @@
-// A closed day, with the book as its close left it, of the records of an input.
-ghost use Rattle.std.specs.Prelude.{◌≡◌, IfOk, option_map, take};
-ghost use Rattle.cns_terms.specs.Common.{journal_of, sheet_on};
-ghost use Rattle.cns_book.specs.Log.{state_of};
-ghost use Rattle.cns_page.specs.Shown.{IsClosedDay, IsSheetOf};
+// A closed day, of the records of an input.
+ghost use Rattle.std.specs.Prelude.{◌≡◌, IfOk, take};
+ghost use Rattle.cns_page.specs.Closed.{AreShared, IsClosedDay, date_before};
 
 use crate::foot::{Origin, origin_of};
-use crate::play::{Played, play_closed};
-use crate::survey::{Close, Survey};
-use cns_feed::ReplayBook;
-use cns_history::{HistoryLine, Watched};
+use cns_account::{DayMoves, Past, moves_of_day, past_of};
+use cns_day::{
+    Aged, Due, Later, Numbered, Owing, dues_of, later_shares, liable_members, live_notices,
+    shorts_of,
+};
+use cns_exceptions::{Close, Played, play_closed};
+use cns_history::Watched;
 use cns_sheets::Sheet;
 use cns_shell::Fault;
+use cns_terms::NoMemory;
 use cns_units::Day;
 use std::alloc::Global;
+use std::sync::Arc;
 
-/// A closed day, of the records up to its close alone.
+/// What the page of a closed day shows of all accounts, and an account's page of its own.
+#[derive(Drop)]
+pub struct Shared {
+    /// Shorts, the oldest first.
+    pub shorts: Vec<Aged>,
+    pub liable: Vec<Owing>,
+    /// Live notices, by number.
+    pub notices: Vec<Numbered>,
+    /// Trades that settle after the day, by date.
+    pub trades: Vec<Due>,
+    /// Their shares, by place.
+    pub later: Later,
+    /// What moved each position on the day.
+    pub moves: DayMoves,
+    /// What the pages of accounts read of the history.
+    pub past: Past,
+}
+
+/// A closed day, of the records up to its close alone, with what its pages show.
 #[derive(Drop)]
 pub struct ClosedDay {
     /// The date on which the book was opened.
@@ -22,47 +43,50 @@ pub struct ClosedDay {
     pub close: Close,
     /// The bytes of the records.
     pub origin: Origin,
-    /// What they came to.
-    pub survey: Survey,
-    /// The lines of what was watched of the day's records.
-    pub lines: Vec<HistoryLine>,
-    pub book: ReplayBook,
-}
-
-/// What a page is of: a closed day, with its sheet.
-#[derive(Clone, Copy)]
-pub struct Page<'a> {
-    pub day: &'a ClosedDay,
-    pub sheet: &'a Sheet<Global>,
-    /// Whether it stands in a folder with the pages of the accounts and of other days, and links lead to them.
+    /// What they came to, with the lines of what was watched.
+    pub played: Played,
+    pub sheet: Arc<Sheet<Global>>,
+    pub shared: Shared,
+    /// Whether its pages stand in a folder, and links lead from one to another and to those of other days.
     pub is_linked: bool,
 }
 
-// The sheet of a closed day.
-fn sheet_of(book: &ReplayBook, date: Day) -> Option<&Sheet<Global>>
-    ensures { option_map (λ s. s.now) result
-        ≡ sheet_on book.now.log.opening (journal_of (state_of book.now.log)) date }
+/// The date of the close before the last one, if there is one.
+pub(crate) fn date_before(closes: &[Close]) -> Option<Day>
+    ensures { result ≡ date_before closes.now }
 {
-    let sheet = book.sheet(date)?;
-    Some(sheet)
+    let place = closes.len().checked_sub(2)?;
+    let close = closes.get(place)?;
+    Some(close.date)
 }
 
-impl ClosedDay {
-    /// What a page of the day is of. `NoSuchDay` where the book has no sheet of it.
-    pub(crate) fn page(&self, is_linked: bool) -> Result<Page<'_>, Fault>
-        ensures day { IfOk result (λ p. p.day.now ≡ self.now) }
-        ensures linked { IfOk result (λ p. p.is_linked ≡ is_linked) }
-        ensures sheet { IfOk result (λ p. IsSheetOf self.now p.sheet.now) }
-    {
-        match sheet_of(&self.book, self.close.date) {
-            Some(sheet) => Ok(Page {
-                day: self,
-                sheet,
-                is_linked,
-            }),
-            None => Err(Fault::NoSuchDay),
-        }
-    }
+// What the pages of a day and of its accounts show both.
+fn shared_of(
+    alloc: Global,
+    played: &Played,
+    close: &Close,
+    sheet: &Sheet<Global>,
+) -> Result<Shared, NoMemory>
+    ensures { IfOk result (AreShared played.now close.now sheet.now) }
+{
+    let book = &played.book;
+    let shorts = shorts_of(alloc, book, sheet)?;
+    let liable = liable_members(alloc, book, close.day)?;
+    let notices = live_notices(alloc, book)?;
+    let trades = dues_of(alloc, book, sheet.date())?;
+    let later = later_shares(alloc, trades.as_slice())?;
+    let before = date_before(played.survey.closes.as_slice());
+    let moves = moves_of_day(alloc, book, before, close.date, played.lines.as_slice())?;
+    let past = past_of(alloc, book)?;
+    Ok(Shared {
+        shorts,
+        liable,
+        notices,
+        trades,
+        later,
+        moves,
+        past,
+    })
 }
 
 // The first bytes of an input, so many.
@@ -72,32 +96,35 @@ fn first_of(input: &[u8], bytes: usize) -> &[u8]
     &input[..bytes.min(input.len())]
 }
 
-/// The closed day with the date, of the records up to its close alone. The input is let go.
+/// The closed day with the date, of the records up to its close alone. The input is let go before anything is gathered.
+/// `NoSuchDay` where the records close no day with the date.
 pub(crate) fn closed_day(
     alloc: Global,
     opening: Day,
     input: Vec<u8>,
     day: Day,
     watched: &Watched,
+    is_linked: bool,
 ) -> Result<ClosedDay, Fault>
-    ensures { IfOk result (IsClosedDay opening input.items day watched.now) }
+    ensures { IfOk result (IsClosedDay opening input.items day watched.now is_linked) }
 {
-    let input = input.as_slice();
-    let (close, played) = play_closed(alloc, input, opening, day, watched)?;
-    let Played {
-        survey,
-        lines,
-        book,
-        bytes,
-        is_whole: _,
-    } = played;
-    let origin = origin_of(alloc, first_of(input, bytes))?;
+    let (close, played) = play_closed(alloc, input.as_slice(), opening, day, watched)?;
+    let origin = origin_of(alloc, first_of(input.as_slice(), played.bytes))?;
+    drop(input);
+    let Some(sheet) = played.book.sheet(close.date) else {
+        return Err(Fault::NoSuchDay);
+    };
+    let Ok(sheet) = Arc::try_clone(sheet) else {
+        return Err(Fault::NoMemory);
+    };
+    let shared = shared_of(alloc, &played, &close, &sheet)?;
     Ok(ClosedDay {
         opening,
         close,
         origin,
-        survey,
-        lines,
-        book,
+        played,
+        sheet,
+        shared,
+        is_linked,
     })
 }

@@ -1,34 +1,33 @@
-// What the page of a closed day shows, gathered before anything is written.
-ghost use Rattle.std.specs.Prelude.{◌≡◌, ◌-◌, ◌^◌, IfOk, min, sum_by};
-ghost use Rattle.cns_page.specs.Listed.{last_closes};
-ghost use Rattle.cns_page.specs.Page.{row_counts};
-ghost use Rattle.cns_page.specs.Shown.{AreContents};
+// What the page of a closed day shows beside what those of its accounts show too, gathered before anything is written.
+ghost use Rattle.std.specs.Prelude.{◌≡◌, ◌-◌, ◌^◌, IfOk, map, min, sum_by};
+ghost use Rattle.cns_day.specs.Listed.{last_closes};
+ghost use Rattle.cns_page.specs.Page.{AreContents, link_text, row_counts};
 
-use crate::accounts::{SheetLine, lines_of};
-use crate::closed::Page;
-use crate::due::{DueAt, all_due};
-use crate::figures::{Figures, line_of_days};
-use crate::issues::{IssueLine, issue_lines};
-use crate::reasons::{Counted, counts_of};
-use crate::rowless::{Rowless, without_row};
-use crate::shared::Shared;
-use crate::survey::{Close, Survey};
-use crate::totals::Span;
+use crate::closed::ClosedDay;
+use cns_day::{DueAt, Figures, IssueSums, SheetLine, all_due, issue_sums, line_of_days, lines_of};
+use cns_exceptions::{Close, Counted, Span, counts_of};
+use cns_tables::{Piece, TableRow, write_form};
 use cns_terms::NoMemory;
-use cns_units::Account;
+use cns_units::{Account, Day, WriteFault};
 use std::alloc::Global;
+use std::io::Write;
 
-/// The rows of the tables of a day's page, beside exceptions and control totals.
+/// A link to the page of an account.
+#[derive(Clone, Copy)]
+pub struct Link {
+    pub date: Day,
+    pub account: Account,
+}
+
+/// The rows of the tables of a day's page, beside exceptions, control totals and what accounts' pages show too.
 #[derive(Drop)]
-pub struct Contents<'a> {
-    /// Those that pages of accounts show too.
-    pub shared: &'a Shared,
+pub struct Contents {
+    /// The links to the pages of the accounts.
+    pub links: Vec<Link>,
     pub reasons: Vec<Counted>,
     pub lines: Vec<SheetLine>,
-    /// The accounts of the page's folder that have no row.
-    pub rowless: Vec<Rowless>,
     /// What the rows of each issue add up to.
-    pub issues: Vec<IssueLine>,
+    pub issues: Vec<IssueSums>,
     /// What is due at each place with pending trades.
     pub due: Vec<DueAt>,
     /// The closed days, in order, the last 60 at most.
@@ -45,28 +44,38 @@ fn last_of(closes: &[Close]) -> &[Close]
     &closes[closes.len().saturating_sub(MOST)..]
 }
 
-/// What the page of a day shows, beside what it shares. In a folder the accounts have pages of their own.
-pub fn contents_of<'a>(
-    alloc: Global,
-    page: &Page<'_>,
-    shared: &'a Shared,
-    accounts: &[Account],
-) -> Result<Contents<'a>, NoMemory>
-    ensures shared { IfOk result (λ l. l.shared.now ≡ shared.now) }
-    ensures rows { IfOk result (AreContents page.now.day.now page.now.sheet.now page.now.is_linked accounts.now) }
+// The links to the pages of accounts.
+fn links_of(alloc: Global, date: Day, accounts: &[Account]) -> Result<Vec<Link>, NoMemory>
+    ensures { IfOk result (λ v. v.items ≡ map (λ a. record { date = date; account = a }) accounts.now) }
 {
-    let day = page.day;
-    let reasons = counts_of(alloc, day.survey.reasons.as_slice())?;
-    let lines = lines_of(alloc, page.sheet, &shared.moves, page.is_linked)?;
-    let rowless = without_row(alloc, page.sheet, accounts)?;
-    let issues = issue_lines(alloc, page.sheet)?;
-    let due = all_due(alloc, &day.book, &shared.pending)?;
-    let days = line_of_days(alloc, &day.book, last_of(day.survey.closes.as_slice()))?;
+    let links = accounts
+        .iter()
+        .copied()
+        .map(|account| Link { date, account })
+        .collect(alloc)?;
+    Ok(links)
+}
+
+/// What the page of a day shows, beside what it shares, with links to the pages of the accounts.
+pub(crate) fn contents_of(
+    alloc: Global,
+    day: &ClosedDay,
+    accounts: &[Account],
+) -> Result<Contents, NoMemory>
+    ensures { IfOk result (AreContents day.now accounts.now) }
+{
+    let book = &day.played.book;
+    let survey = &day.played.survey;
+    let links = links_of(alloc, day.close.date, accounts)?;
+    let reasons = counts_of(alloc, survey.reasons.as_slice())?;
+    let lines = lines_of(alloc, &day.sheet, &day.shared.moves)?;
+    let issues = issue_sums(alloc, &day.sheet)?;
+    let due = all_due(alloc, book, &day.shared.later)?;
+    let days = line_of_days(alloc, book, last_of(survey.closes.as_slice()))?;
     Ok(Contents {
-        shared,
+        links,
         reasons,
         lines,
-        rowless,
         issues,
         due,
         days,
@@ -84,21 +93,41 @@ pub(crate) fn sum_of(counts: &[usize]) -> u64
     sum
 }
 
-/// How many rows the tables of a page have.
-pub fn rows_of(survey: &Survey, contents: &Contents<'_>, totals: &[Span]) -> u64
-    ensures { result ≡ min (sum_by (λ n. n) (row_counts survey.now contents.now totals.now)) (2 ^ 64 - 1) }
+/// How many rows the tables of the page of a day have.
+pub(crate) fn rows_of(day: &ClosedDay, contents: &Contents, totals: &[Span]) -> u64
+    ensures { result ≡ min (sum_by (λ n. n) (row_counts day.now contents.now totals.now)) (2 ^ 64 - 1) }
 {
+    let shared = &day.shared;
     sum_of(&[
-        survey.findings.len(),
+        day.played.survey.findings.len(),
         contents.reasons.len(),
         contents.lines.len(),
         contents.issues.len(),
-        contents.shared.shorts.len(),
-        contents.shared.liable.len(),
-        contents.shared.notices.len(),
+        shared.shorts.len(),
+        shared.liable.len(),
+        shared.notices.len(),
         contents.due.len(),
-        contents.shared.trades.len(),
+        shared.trades.len(),
         contents.days.len(),
         totals.len(),
     ])
+}
+
+// A link: the date and the account of the page, and the account.
+const LINK: &str = "<a href=_-_.html>_</a>\n";
+
+impl TableRow for Link {
+    ghost use Rattle.cns_page.specs.Page.{link_text};
+
+    ghost text = { link_text };
+
+    fn write_row<W: Write>(&self, writer: &mut W) -> Result<(), WriteFault> {
+        let number = u64::from(self.account.value());
+        let pieces = [
+            Piece::Date(self.date),
+            Piece::Number(number),
+            Piece::Number(number),
+        ];
+        write_form(LINK, &pieces, writer)
+    }
 }

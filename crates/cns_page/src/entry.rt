@@ -53,7 +53,7 @@ fn make_of<R: AllocGlobal + Files<File = File>, I: Read, O: Write>(
     output: &mut O,
 ) -> Result<(), Fault>
     ensures { OnOk result (IfSome (I.remaining input.old)
-        (λ bytes. HasPage asked.now bytes (O.contents output.old) (O.contents output.new))) }
+        (λ bytes. HasPage asked.now.about asked.now bytes (O.contents output.old) (O.contents output.new))) }
 {
     check_asked(rt, asked.about, folder)?;
     let alloc = rt.alloc();
@@ -77,7 +77,7 @@ pub fn run_words<R: AllocGlobal + Files<File = File>, S: AsStr, I: Read, O: Writ
     ensures status { result.status ≤ 2 }
     ensures page { result.status ≡ 0 → IfSome (I.remaining input.old) (λ bytes. (asked : Asked)
         × (question (map S.text words.now) ≡ Some asked)
-        × HasPage asked bytes (O.contents output.old) (O.contents output.new)) }
+        × HasPage asked.about asked bytes (O.contents output.old) (O.contents output.new)) }
     ensures quiet { result.status ≡ 0 → errors.new ≡ errors.old }
     ensures told { result.status ≡ 1
         → (f : Fault) × Writes (E.contents errors.old) (E.contents errors.new) (fault_line f) result.told }

@@ -1,8 +1,9 @@
 // The files of a folder: each of them is whole, or is not there.
 ghost use Rattle.std.specs.Prelude.{◌≡◌, ◌++◌, IfOk, OnOk, string_bytes};
 ghost use Rattle.std.specs.Io.KnownBytes.{Appends};
-ghost use Rattle.cns_page.specs.Files.{account_part, and_kept, name_text};
+ghost use Rattle.cns_page.specs.Files.{and_kept, name_text};
 
+use crate::foot::write_account_part;
 use cns_shell::Fault;
 use cns_tables::{Piece, write_form, write_markup};
 use cns_terms::NoMemory;
@@ -30,27 +31,13 @@ const PAGE: &str = ".html";
 // What a file's name ends with until the file is whole.
 const PART: &str = ".html.part";
 
-// Writes what stands in a file's name for the account, where the page is one's.
-fn write_account<W: Write>(account: Option<Account>, writer: &mut W) -> Result<(), WriteFault>
-    ensures { OnOk result (Appends (W.contents writer.old) (W.contents writer.new) (account_part account)) }
-{
-    match account {
-        Some(account) => write_form(
-            OF_ACCOUNT,
-            &[Piece::Number(u64::from(account.value()))],
-            writer,
-        ),
-        None => Ok(()),
-    }
-}
-
 // Writes a file's name with its end: the date, and the account where the page is one's.
 #[tactic(auto, using(cns_tables::proofs::Written::after))]
 fn write_name<W: Write>(named: &Named, end: &'static str, writer: &mut W) -> Result<(), WriteFault>
     ensures { OnOk result (Appends (W.contents writer.old) (W.contents writer.new) (name_text named.now end.now)) }
 {
     write_form(OF_DAY, &[Piece::Date(named.date)], writer)?;
-    write_account(named.account, writer)?;
+    write_account_part(OF_ACCOUNT, named.account, writer)?;
     write_markup(end, writer)
 }
 

@@ -2,12 +2,12 @@
 // seen.
 ghost use Rattle.std.specs.Prelude.{◌≡◌, IfOk, OnOk};
 ghost use Rattle.std.specs.Io.KnownBytes.{Appends};
-ghost use Rattle.cns_page.specs.Foot.{IsOrigin, again_text, day_word, foot_text, made_text};
+ghost use Rattle.cns_page.specs.Foot.{IsOrigin, account_part, day_word, foot_text, made_text};
 ghost use Rattle.cns_tables.specs.Pieces.{piece_text};
 
 use cns_tables::{Piece, write_form};
 use cns_terms::NoMemory;
-use cns_units::{Day, WriteFault};
+use cns_units::{Account, Day, WriteFault};
 use sha2::{Digest, Sha256};
 use std::alloc::Global;
 use std::io::Write;
@@ -28,6 +28,9 @@ const AGAIN: &str = "</main>
 <pre tabindex=0><code>cnspage --open _ --day _";
 
 const TODAY: &str = "today";
+
+// Its option for an account.
+const ACCOUNT_OPTION: &str = " --account _";
 
 // Its end, how many bytes the page was made of, their digest, and how many rows its tables have.
 const MADE: &str = " &lt; records &gt; day.html</code></pre>
@@ -58,24 +61,23 @@ fn day_word(day: Option<Day>) -> Piece<'static>
     }
 }
 
-/// Writes the line that makes the page of a closed day again, or that of the open one, but for its end.
-pub(crate) fn write_again<W: Write>(
-    opening: Day,
-    day: Option<Day>,
+/// Writes a form with an account's number, where there is an account.
+pub(crate) fn write_account_part<W: Write>(
+    form: &'static str,
+    account: Option<Account>,
     writer: &mut W,
 ) -> Result<(), WriteFault>
-    ensures { OnOk result (Appends (W.contents writer.old) (W.contents writer.new) (again_text opening day)) }
+    ensures { OnOk result (Appends (W.contents writer.old) (W.contents writer.new) (account_part form.now account)) }
 {
-    write_form(AGAIN, &[Piece::Date(opening), day_word(day)], writer)
+    match account {
+        Some(account) => write_form(form, &[Piece::Number(u64::from(account.value()))], writer),
+        None => Ok(()),
+    }
 }
 
-/// Writes what a page was made of, and how many rows its tables have.
+// Writes what a page was made of, and how many rows its tables have.
 #[tactic(auto, unfolding(crate::specs::Foot::made_text))]
-pub(crate) fn write_made<W: Write>(
-    origin: &Origin,
-    rows: u64,
-    writer: &mut W,
-) -> Result<(), WriteFault>
+fn write_made<W: Write>(origin: &Origin, rows: u64, writer: &mut W) -> Result<(), WriteFault>
     ensures { OnOk result (Appends (W.contents writer.old) (W.contents writer.new) (made_text origin.now rows)) }
 {
     let pieces = [
@@ -86,17 +88,19 @@ pub(crate) fn write_made<W: Write>(
     write_form(MADE, &pieces, writer)
 }
 
-/// Writes the foot of the page of a closed day, or of the open one, with so many rows.
+/// Writes the foot of the page of a closed day, or of the open one, of all accounts or of one, with so many rows.
 #[tactic(auto, using(cns_tables::proofs::Written::after))]
 pub(crate) fn write_foot<W: Write>(
     opening: Day,
     day: Option<Day>,
+    account: Option<Account>,
     origin: &Origin,
     rows: u64,
     writer: &mut W,
 ) -> Result<(), WriteFault>
-    ensures { OnOk result (Appends (W.contents writer.old) (W.contents writer.new) (foot_text opening day origin.now rows)) }
+    ensures { OnOk result (Appends (W.contents writer.old) (W.contents writer.new) (foot_text opening day account origin.now rows)) }
 {
-    write_again(opening, day, writer)?;
+    write_form(AGAIN, &[Piece::Date(opening), day_word(day)], writer)?;
+    write_account_part(ACCOUNT_OPTION, account, writer)?;
     write_made(origin, rows, writer)
 }

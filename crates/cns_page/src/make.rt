@@ -1,28 +1,20 @@
 // The page that is asked for, of the records of an input.
 ghost use Rattle.std.specs.Prelude.{◌≡◌, IfOk, OnOk};
-ghost use Rattle.cns_feed.specs.Output.{lines_of};
-ghost use Rattle.cns_feed.specs.Replay.{blank_log, log_after};
-ghost use Rattle.cns_page.specs.Asked.{HasAsked, HasClosed, HasOwn, HasPage, HasPast, IsClosedIn, IsLastDay, HasPlayed, WritesOwn, closed_in};
-ghost use Rattle.cns_page.specs.Folder.{HasKept, KeepsClosed};
-ghost use Rattle.cns_page.specs.Page.{next_day as today};
-ghost use Rattle.cns_page.specs.Shown.{WritesDay};
-ghost use Rattle.cns_page.specs.Today.{HasToday};
+ghost use Rattle.std.specs.Io.KnownBytes.{Appends};
+ghost use Rattle.cns_page.specs.Asked.{HasKept, HasPage, HasPast, HasPlayed, IsAccountPage, IsAllPage, IsAskedDay, IsClosedIn, IsClosedPage, IsLastDay, closed_in, is_folder, watched_for};
 
-use crate::account::write_account;
+use crate::account::own_page;
 use crate::asked::{About, Asked, When};
 use crate::closed::{ClosedDay, closed_day};
-use crate::contents::contents_of;
 use crate::files::Keeps;
 use crate::folder::keep_day;
-use crate::page::write_page;
-use crate::play::{Played, play_all, play_closed};
-use crate::shared::shared_of;
-use crate::today::write_today;
-use cns_feed::ReplayBook;
+use crate::page::day_page;
+use crate::today::today_page;
+use cns_exceptions::{Played, play_all, play_closed};
 use cns_history::{Place, Told, Watched, Whose, write_history};
-use cns_sheets::Sheet;
 use cns_shell::Fault;
-use cns_units::{Account, Day};
+use cns_tables::hand_on;
+use cns_units::{Account, Day, write_bytes};
 use std::alloc::Global;
 use std::io::Write;
 
@@ -48,113 +40,75 @@ fn day_in(alloc: Global, opening: Day, input: &[u8], when: When) -> Result<Day, 
     }
 }
 
-// Writes the page of a closed day.
-fn write_taken<O: Write>(alloc: Global, day: &ClosedDay, output: &mut O) -> Result<(), Fault>
-    ensures { OnOk result (WritesDay day.now (O.contents output.old) (O.contents output.new)) }
+// What is watched for what is asked for, on the day with the date.
+fn watched_for(about: About, date: Day) -> Watched
+    ensures { result ≡ watched_for about date }
 {
-    let page = day.page(false)?;
-    let shared = shared_of(alloc, &page)?;
-    let contents = contents_of(alloc, &page, &shared, &[])?;
-    write_page(&page, &contents, output)?;
-    Ok(())
+    match about {
+        About::All | About::Place(_) => Watched::Movements(date),
+        About::Account(account) => Watched::Bookings(Whose::One(account), date),
+        About::Folder => Watched::Bookings(Whose::All, date),
+    }
 }
 
-// Writes the page of the closed day that is asked for.
-fn write_closed<O: Write>(
-    alloc: Global,
-    opening: Day,
-    input: Vec<u8>,
-    when: When,
-    output: &mut O,
-) -> Result<(), Fault>
-    ensures { OnOk result (HasClosed opening input.items when (O.contents output.old) (O.contents output.new)) }
+// Whether pages are for a folder.
+fn is_folder(about: About) -> bool
+    ensures { result ≡ is_folder about }
 {
-    let date = day_in(alloc, opening, input.as_slice(), when)?;
-    let day = closed_day(alloc, opening, input, date, &Watched::Movements(date))?;
-    write_taken(alloc, &day, output)?;
-    Ok(())
+    matches!(about, About::Folder)
+}
+
+// The closed day that is asked for.
+fn asked_day(alloc: Global, asked: &Asked, input: Vec<u8>) -> Result<ClosedDay, Fault>
+    ensures { IfOk result (IsAskedDay asked.now input.items) }
+{
+    let date = day_in(alloc, asked.opening, input.as_slice(), asked.day)?;
+    let watched = watched_for(asked.about, date);
+    let is_linked = is_folder(asked.about);
+    closed_day(alloc, asked.opening, input, date, &watched, is_linked)
 }
 
 // Whether an account is a member's or the corporation's, so far as the listed issues tell.
-fn check_account(book: &ReplayBook, sheet: &Sheet<Global>, account: Account) -> Result<(), Fault> {
-    let Some((issue, _)) = sheet.next_price(None) else {
+fn check_account(day: &ClosedDay, account: Account) -> Result<(), Fault> {
+    let Some((issue, _)) = day.sheet.next_price(None) else {
         return Ok(());
     };
-    match book.position(account, issue) {
+    match day.played.book.position(account, issue) {
         Some(_) => Ok(()),
         None => Err(Fault::NoSuchMember),
     }
 }
 
-// Writes the page of what a closed day did to an account.
-fn write_own_taken<O: Write>(
-    alloc: Global,
-    account: Account,
-    day: &ClosedDay,
-    output: &mut O,
-) -> Result<(), Fault>
-    ensures { OnOk result (WritesOwn account day.now (O.contents output.old) (O.contents output.new)) }
+// The page of all accounts of the closed day that is asked for.
+fn closed_page(alloc: Global, asked: &Asked, input: Vec<u8>) -> Result<Vec<u8>, Fault>
+    ensures { IfOk result (λ v. IsClosedPage asked.now input.items v.items) }
 {
-    let page = day.page(false)?;
-    check_account(&day.book, page.sheet, account)?;
-    let shared = shared_of(alloc, &page)?;
-    write_account(alloc, account, &page, &shared, day.lines.as_slice(), output)
+    let day = asked_day(alloc, asked, input)?;
+    Ok(day_page(alloc, &day, &[])?)
 }
 
-// Writes the page of what the closed day that is asked for did to an account.
-fn write_own<O: Write>(
-    alloc: Global,
-    opening: Day,
-    account: Account,
-    input: Vec<u8>,
-    when: When,
-    output: &mut O,
-) -> Result<(), Fault>
-    ensures { OnOk result (HasOwn account opening input.items when (O.contents output.old) (O.contents output.new)) }
+// The same of the day that is asked for, closed or open.
+fn all_page(alloc: Global, asked: &Asked, input: Vec<u8>) -> Result<Vec<u8>, Fault>
+    ensures { IfOk result (λ v. IsAllPage asked.now.day asked.now input.items v.items) }
 {
-    let date = day_in(alloc, opening, input.as_slice(), when)?;
-    let watched = Watched::Bookings(Whose::One(account), date);
-    let day = closed_day(alloc, opening, input, date, &watched)?;
-    write_own_taken(alloc, account, &day, output)?;
-    Ok(())
-}
-
-// The date of the day that is open after all records.
-fn open_day(alloc: Global, opening: Day, input: &[u8]) -> Result<Day, Fault>
-    ensures { IfOk result (λ d. d ≡ today (log_after (blank_log opening) (lines_of input.now))) }
-{
-    let played = play_all(alloc, input, opening, None, &Watched::Nothing)?;
-    Ok(played.book.today())
-}
-
-// Writes the page of the day that is open after all records.
-fn write_open<O: Write>(
-    alloc: Global,
-    opening: Day,
-    input: &[u8],
-    output: &mut O,
-) -> Result<(), Fault>
-    ensures { OnOk result (HasToday opening input.now (O.contents output.old) (O.contents output.new)) }
-{
-    let date = open_day(alloc, opening, input)?;
-    let played = play_all(alloc, input, opening, Some(date), &Watched::Nothing)?;
-    write_today(alloc, opening, input, &played, output)
-}
-
-// Writes the page of the day that is asked for.
-fn write_asked<O: Write>(
-    alloc: Global,
-    opening: Day,
-    input: Vec<u8>,
-    when: When,
-    output: &mut O,
-) -> Result<(), Fault>
-    ensures { OnOk result (HasAsked opening input.items when (O.contents output.old) (O.contents output.new)) }
-{
-    match when {
-        When::Today => write_open(alloc, opening, input.as_slice(), output),
-        When::Last | When::Closed(_) => write_closed(alloc, opening, input, when, output),
+    match asked.day {
+        When::Today => today_page(alloc, asked.opening, input.as_slice()),
+        When::Last | When::Closed(_) => closed_page(alloc, asked, input),
     }
+}
+
+// The page of an account of the closed day that is asked for.
+fn account_page(
+    alloc: Global,
+    asked: &Asked,
+    account: Account,
+    input: Vec<u8>,
+) -> Result<Vec<u8>, Fault>
+    ensures { IfOk result (λ v. IsAccountPage account asked.now input.items v.items) }
+{
+    let day = asked_day(alloc, asked, input)?;
+    check_account(&day, account)?;
+    Ok(own_page(alloc, account, &day)?)
 }
 
 // What a history is of: the records up to the close of the day, or all of the input where none is given.
@@ -202,27 +156,19 @@ fn closed_in(day: When) -> Option<Day>
     }
 }
 
-// Keeps the pages of the closed day that is asked for.
-fn keep_closed<K: Keeps>(
-    alloc: Global,
-    opening: Day,
-    input: Vec<u8>,
-    when: When,
-    keeper: &mut K,
-) -> Result<(), Fault>
-    ensures { OnOk result (KeepsClosed opening input.items when (K.kept keeper.old) (K.kept keeper.new)) }
+// Writes a page, and hands it on.
+fn write_page<O: Write>(page: &[u8], output: &mut O) -> Result<(), Fault>
+    ensures { OnOk result (Appends (O.contents output.old) (O.contents output.new) page.now) }
 {
-    let date = day_in(alloc, opening, input.as_slice(), when)?;
-    let watched = Watched::Bookings(Whose::All, date);
-    let day = closed_day(alloc, opening, input, date, &watched)?;
-    keep_day(alloc, &day, keeper)?;
-    Ok(())
+    write_bytes(page, output)?;
+    Ok(hand_on(output)?)
 }
 
 /// Writes the page that is asked for, of the records of an input, and hands it on; or hands the pages for a folder to its keeper.
 ///
 /// The records of a closed day that is named are played once, up to its close. The date of the last one, and that of the open day, are
-/// found by playing all records first. The input is let go before anything is gathered, but for the page of the open day.
+/// found by playing all records first. The input is let go before anything is gathered, but for the page of the open day. The page of a
+/// day is made whole before any of it is written.
 ///
 /// `NoMemory` where an allocation failed, `Read` where there are 4,294,967,295 records or more before the close that is asked for, or
 /// at all where none is, or a file of the folder cannot be read, `NoSuchDay` where no closed day has the date, or no day is closed,
@@ -236,18 +182,29 @@ pub(crate) fn make<K: Keeps, O: Write>(
     keeper: &mut K,
     output: &mut O,
 ) -> Result<(), Fault>
-    ensures page { OnOk result (HasPage asked.now input.items (O.contents output.old) (O.contents output.new)) }
-    ensures kept { OnOk result (HasKept asked.now input.items (K.kept keeper.old) (K.kept keeper.new)) }
+    ensures page { OnOk result (HasPage asked.now.about asked.now input.items (O.contents output.old) (O.contents output.new)) }
+    ensures kept { OnOk result (HasKept asked.now.about asked.now input.items (K.kept keeper.old) (K.kept keeper.new)) }
 {
-    let opening = asked.opening;
-    let when = asked.day;
     match asked.about {
-        About::All => write_asked(alloc, opening, input, when, output),
-        About::Account(account) => write_own(alloc, opening, account, input, when, output),
         About::Place(key) => {
-            let day = closed_in(when);
-            write_past(alloc, &Place { opening, day, key }, input, output)
+            let place = Place {
+                opening: asked.opening,
+                day: closed_in(asked.day),
+                key,
+            };
+            write_past(alloc, &place, input, output)
         }
-        About::Folder => keep_closed(alloc, opening, input, when, keeper),
+        About::Folder => {
+            let day = asked_day(alloc, asked, input)?;
+            keep_day(alloc, &day, keeper)
+        }
+        About::All => {
+            let page = all_page(alloc, asked, input)?;
+            write_page(page.as_slice(), output)
+        }
+        About::Account(account) => {
+            let page = account_page(alloc, asked, account, input)?;
+            write_page(page.as_slice(), output)
+        }
     }
 }

@@ -1,18 +1,17 @@
 // The page of a closed day: a head, tables in a fixed order, and a foot.
-ghost use Rattle.std.specs.Prelude.{OnOk};
+ghost use Rattle.std.specs.Prelude.{◌≡◌, IfOk, OnOk};
 ghost use Rattle.std.specs.Io.KnownBytes.{Appends};
-ghost use Rattle.cns_page.specs.Page.{after_text, before_text, begin_text, head_text, links_text, page_text};
-ghost use Rattle.cns_page.specs.Shown.{ShowsDay};
+ghost use Rattle.cns_page.specs.Page.{IsDayPage, before_text, head_text, links_text, page_text};
 
 use crate::captions::{CAPTIONS, Captions};
-use crate::closed::{ClosedDay, Page};
-use crate::contents::{Contents, rows_of};
+use crate::closed::{ClosedDay, date_before};
+use crate::contents::{Contents, Link, contents_of, rows_of};
 use crate::foot::write_foot;
-use crate::rowless::{Rowless, write_rowless};
-use crate::shared::date_before;
-use crate::totals::{Span, spans_of};
-use cns_tables::{Piece, START, hand_on, page_style, write_form, write_markup, write_table};
-use cns_units::{Day, WriteFault};
+use cns_exceptions::{Span, spans_of};
+use cns_tables::{Piece, START, page_style, write_form, write_markup, write_rows, write_table};
+use cns_terms::NoMemory;
+use cns_units::{Account, Day, WriteFault};
+use std::alloc::Global;
 use std::io::Write;
 
 // The head up to the links within the page: start, date, style, date, the day's number, its first record and its last one, how many
@@ -35,11 +34,15 @@ _<a class=skip href=#main>Skip to the day</a>
 <li><a href=#totals>Control totals</a>
 ";
 
-// The links to the pages of other days.
+// The links to the pages of other days and of the accounts.
 const DAY_BEFORE: &str = "<li><a href=_.html>The day before</a>
 ";
 
 const DAY_AFTER: &str = "<li><a href=_.html>The next day</a>
+<li><details><summary>The accounts</summary>
+";
+
+const LINKED: &str = "</details>
 ";
 
 const MAIN: &str = "</ul></nav>
@@ -53,16 +56,17 @@ fn write_head<W: Write>(day: &ClosedDay, writer: &mut W) -> Result<(), WriteFaul
     ensures { OnOk result (Appends (W.contents writer.old) (W.contents writer.new) (head_text day.now)) }
 {
     let date = day.close.date;
+    let survey = &day.played.survey;
     let pieces = [
         Piece::Markup(START),
         Piece::Date(date),
         Piece::Markup(page_style()),
         Piece::Date(date),
         Piece::Number(u64::from(day.close.day)),
-        Piece::Number(day.survey.first_of_day()),
+        Piece::Number(survey.first_of_day()),
         Piece::Number(day.close.number),
-        Piece::Count(day.survey.exceptions_of_day()),
-        Piece::Date(day.book.today()),
+        Piece::Count(survey.exceptions_of_day()),
+        Piece::Date(day.played.book.today()),
     ];
     write_form(HEAD, &pieces, writer)
 }
@@ -78,62 +82,40 @@ fn write_before<W: Write>(before: Option<Day>, writer: &mut W) -> Result<(), Wri
     }
 }
 
-// Writes the link to the page of the next day.
-#[tactic(auto, unfolding(crate::specs::Page::after_text))]
-fn write_after<W: Write>(next: Day, writer: &mut W) -> Result<(), WriteFault>
-    ensures { OnOk result (Appends (W.contents writer.old) (W.contents writer.new) (after_text next)) }
-{
-    write_form(DAY_AFTER, &[Piece::Date(next)], writer)
-}
-
-// Writes the links to the pages of other days and of accounts without a row, where the page stands in a folder with them.
+// Writes the links to other pages, where the page stands in a folder with them.
 #[tactic(auto, using(cns_tables::proofs::Written::after))]
-fn write_links<W: Write>(
-    page: &Page<'_>,
-    others: &[Rowless],
-    writer: &mut W,
-) -> Result<(), WriteFault>
-    ensures { OnOk result (Appends (W.contents writer.old) (W.contents writer.new)
-        (links_text page.now.day.now page.now.is_linked others.now)) }
+fn write_links<W: Write>(day: &ClosedDay, links: &[Link], writer: &mut W) -> Result<(), WriteFault>
+    ensures { OnOk result (Appends (W.contents writer.old) (W.contents writer.new) (links_text day.now links.now)) }
 {
-    if !page.is_linked {
+    if !day.is_linked {
         return Ok(());
     }
-    let day = page.day;
-    write_before(date_before(day.survey.closes.as_slice()), writer)?;
-    write_after(day.book.today(), writer)?;
-    write_rowless(others, writer)
+    write_before(date_before(day.played.survey.closes.as_slice()), writer)?;
+    write_form(DAY_AFTER, &[Piece::Date(day.played.book.today())], writer)?;
+    write_rows(links, writer)?;
+    write_markup(LINKED, writer)
 }
 
-// Writes the head.
-fn write_begin<W: Write>(
-    page: &Page<'_>,
-    others: &[Rowless],
-    writer: &mut W,
-) -> Result<(), WriteFault>
-    ensures { OnOk result (Appends (W.contents writer.old) (W.contents writer.new)
-        (begin_text page.now.day.now page.now.is_linked others.now)) }
-{
-    write_head(page.day, writer)?;
-    write_links(page, others, writer)?;
-    write_markup(MAIN, writer)
-}
-
-// Writes a page with some captions, and hands it on.
+// Writes the page with some captions.
 fn write_text<W: Write>(
     captions: &Captions,
-    page: &Page<'_>,
-    contents: &Contents<'_>,
+    day: &ClosedDay,
+    contents: &Contents,
     totals: &[Span],
     writer: &mut W,
 ) -> Result<(), WriteFault>
     ensures { OnOk result (Appends (W.contents writer.old) (W.contents writer.new)
-        (page_text captions.now page.now.day.now page.now.is_linked contents.now totals.now)) }
+        (page_text captions.now day.now contents.now totals.now)) }
 {
-    let day = page.day;
-    let shared = contents.shared;
-    write_begin(page, contents.rowless.as_slice(), writer)?;
-    write_table(&captions.exceptions, day.survey.findings.as_slice(), writer)?;
+    let shared = &day.shared;
+    write_head(day, writer)?;
+    write_links(day, contents.links.as_slice(), writer)?;
+    write_markup(MAIN, writer)?;
+    write_table(
+        &captions.exceptions,
+        day.played.survey.findings.as_slice(),
+        writer,
+    )?;
     write_table(&captions.reasons, contents.reasons.as_slice(), writer)?;
     write_table(&captions.accounts, contents.lines.as_slice(), writer)?;
     write_table(&captions.issues, contents.issues.as_slice(), writer)?;
@@ -144,22 +126,30 @@ fn write_text<W: Write>(
     write_table(&captions.projection, shared.trades.as_slice(), writer)?;
     write_table(&captions.days, contents.days.as_slice(), writer)?;
     write_table(&captions.totals, totals, writer)?;
-    let rows = rows_of(&day.survey, contents, totals);
-    write_foot(day.opening, Some(day.close.date), &day.origin, rows, writer)?;
-    hand_on(writer)
+    let rows = rows_of(day, contents, totals);
+    write_foot(
+        day.opening,
+        Some(day.close.date),
+        None,
+        &day.origin,
+        rows,
+        writer,
+    )
 }
 
-/// Writes the page of what was gathered of a day, and hands it on.
-///
-/// `Write` where the writer fails, takes no byte or cannot be flushed. What was written before stands.
-pub fn write_page<W: Write>(
-    page: &Page<'_>,
-    contents: &Contents<'_>,
-    writer: &mut W,
-) -> Result<(), WriteFault>
-    ensures { OnOk result (ShowsDay page.now.day.now page.now.is_linked contents.now (W.contents writer.old) (W.contents writer.new)) }
+/// The page of a closed day, with links to those of the accounts where it is linked.
+pub(crate) fn day_page(
+    alloc: Global,
+    day: &ClosedDay,
+    accounts: &[Account],
+) -> Result<Vec<u8>, NoMemory>
+    ensures { IfOk result (λ v. IsDayPage day.now accounts.now v.items) }
 {
-    let totals = spans_of(&page.day.survey);
-    write_text(&CAPTIONS, page, contents, &totals, writer)?;
-    Ok(())
+    let contents = contents_of(alloc, day, accounts)?;
+    let totals = spans_of(&day.played.survey);
+    let mut page = Vec::new(alloc);
+    match write_text(&CAPTIONS, day, &contents, &totals, &mut page) {
+        Ok(()) => Ok(page),
+        Err(_) => Err(NoMemory),
+    }
 }

@@ -1,0 +1,5 @@
+pub mod Waiting
+pub mod Gathered
+pub mod Figured
+pub mod Numbering
+pub mod Common

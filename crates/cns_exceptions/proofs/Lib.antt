@@ -1,0 +1,6 @@
+pub mod Gathered
+pub mod PlayLemmas
+pub mod LaterLemmas
+pub mod SoughtLemmas
+pub mod Shown
+pub mod Common

@@ -1,0 +1,6 @@
+pub mod Survey
+pub mod Sought
+pub mod Facts
+pub mod Exceptions
+pub mod Counts
+pub mod Common

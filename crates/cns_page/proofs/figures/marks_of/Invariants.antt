@@ -1,5 +1,0 @@
-use Rattle.cns_page.proofs.Common.{◌≡◌, ◌++◌, ◌-◌, ◌^◌, min, sum_by, unsigned_abs}
-use Rattle.cns_page.proofs.figures.marks_of.Given as goal
-
-abbrev pub invariant-loop-row : goal.invariant-loop-row
-invariant-loop-row l = (l.initial.row-iterator ≡ l.yielded ++ l.row-iterator) × (l.marks ≡ min (sum_by (λ r. unsigned_abs r.mark) l.yielded) (2 ^ 128 - 1))
