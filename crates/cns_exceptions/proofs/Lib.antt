@@ -1,3 +1,5 @@
+mod Blocks
+pub mod DaysLemmas
 pub mod Gathered
 pub mod PlayLemmas
 pub mod LaterLemmas

@@ -1,7 +1,8 @@
 -- A book and what is known of its records, line after line.
 -- For `play_with` and `step` of play.rt.
-use Rattle.cns_exceptions.proofs.Common.{◌≡◌, Bool, true, ℕ, ◌+◌, List, [], ◌∷◌, ◌++◌, length, take, Option, refl, sym, ap, ◌∙◌, append_assoc, append-nil, length-append, arith, State, Log, state_of, Line, state_after_line, Pending, log_after_line, log_after-append, state_of-after, Came, Known, Takes, known, noted, replied, righted, wanted, Survey, Command, Watched, state_after, log_after, noted_all, Outcome}
+use Rattle.cns_exceptions.proofs.Common.{◌≡◌, ◌<◌, ℕ, ◌+◌, List, [], ◌∷◌, ◌++◌, length, take, Option, refl, sym, ap, ◌∙◌, append_assoc, append-nil, length-append, arith, State, Log, state_of, Line, state_after_line, Pending, log_after_line, log_after-append, state_of-after, Came, Known, Takes, known, noted, replied, righted, wanted, Survey, Command, Watched, state_after, log_after, noted_all, Outcome}
 use Rattle.std.proofs.Math.Seq.{take-append_seam}
+use Rattle.std.proofs.lemmas.List.{take_all}
 use Rattle.cns_terms.specs.declared.reply.Reply.{Reply}
 use Rattle.cns_feed.specs.declared.records.Records.{Records}
 use Rattle.cns_history.specs.Lines.{history, lines_of}
@@ -71,14 +72,16 @@ along_line rem a b w first now then from s t old new turns all turned takes p =
           ∙ sym (history-append w 0 (state_of first) p.done (one.line ∷ []));
     }
 
--- what came of the lines that were taken
-pub along_came : {R : Type 0} (rem : R → Option (List ℕ)) (rs : Records R) (w : Watched) (first now : Log) (from : Known) (s : Survey) (told : List HistoryLine) (turns : ℕ) (whole : Bool) (all : List Line)
-    → (p : Along rem rs w first now from s told turns all) → s.records ≡ turns → (whole ≡ true → p.rest ≡ []) → Came w first now from s told whole all
-along_came rem rs w first now from s told turns whole all p h1 h2 = grind (arith, take, length, take-append_seam, length-append)
+-- what came of the first lines, so many: of those of so many turns
+pub along_came : {R : Type 0} (rem : R → Option (List ℕ)) (rs : Records R) (w : Watched) (first now : Log) (from : Known) (s : Survey) (told : List HistoryLine) (turns : ℕ) (all : List Line)
+    → Along rem rs w first now from s told turns all → Came w first now from s told (take turns all)
+along_came rem rs w first now from s told turns all p = grind (arith, take, length, take-append_seam, length-append)
 
--- where no line is left
-pub along_end : {R : Type 0} (rem : R → Option (List ℕ)) (rs : Records R) (w : Watched) (first now then : Log) (from : Known) (s t : Survey) (old new : List HistoryLine) (turns : ℕ) (all : List Line)
-    → (then ≡ now) × (t ≡ s) × (new ≡ old) × ((rest : List Line) → Pending rem rs rest → rest ≡ []) → s.records ≡ turns → Along rem rs w first now from s old turns all
-    → Came w first then from t new true all
-along_end rem rs w first now then from s t old new turns all (log, survey, lines, none) counted p =
-    rw (log, survey, lines) (along_came rem rs w first now from s old turns true all p counted (λ t. none p.rest p.left))
+-- where no line is left, so many or more
+pub along_end : {R : Type 0} (rem : R → Option (List ℕ)) (rs : Records R) (w : Watched) (first now then : Log) (from : Known) (s t : Survey) (old new : List HistoryLine) (turns most : ℕ) (all : List Line)
+    → (then ≡ now) × (t ≡ s) × (new ≡ old) × ((rest : List Line) → Pending rem rs rest → rest ≡ []) → turns < most → Along rem rs w first now from s old turns all
+    → Came w first then from t new (take most all)
+along_end rem rs w first now then from s t old new turns most all (log, survey, lines, none) few p =
+    let whole : all ≡ p.done = p.whole ∙ ap (λ ls. p.done ++ ls) (none p.rest p.left) ∙ append-nil p.done in
+    let count = p.count in
+    rw (log, survey, lines, whole, take_all most p.done (omega (arith, count, few))) (record { log = p.log; knows = p.knows; tells = p.tells })

@@ -30,7 +30,7 @@ pub use Rattle.cns_exceptions.specs.declared.finding.Outcome.{Outcome}
 pub use Rattle.cns_exceptions.specs.declared.finding.Waiting.{Waiting}
 pub use Rattle.cns_exceptions.specs.declared.play.Played.{Played}
 pub use Rattle.cns_exceptions.specs.declared.counts.Counted.{Counted}
-pub use Rattle.cns_exceptions.specs.declared.survey.Close.{Close}
+pub use Rattle.cns_exceptions.specs.declared.days.Close.{Close}
 pub use Rattle.cns_exceptions.specs.declared.survey.Survey.{Survey}
 pub use Rattle.cns_exceptions.specs.declared.counts.Span.{Span}
 pub use Rattle.cns_tables.specs.declared.piece.Piece.{Piece}

@@ -1,3 +1,4 @@
+pub mod Days
 pub mod Survey
 pub mod Sought
 pub mod Facts

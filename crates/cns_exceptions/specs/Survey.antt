@@ -1,7 +1,6 @@
--- What is known of the records of an input: which of them are exceptions, and which closed a day.
-use Rattle.std.specs.Prelude.{◌≡◌, ◌≤◌, ℕ, ◌+◌, ◌-◌, ◌^◌, ◌==◌, ◌&&◌, ◌||◌, Bool, false, is_none, List, [], ◌∷◌, ◌++◌, if◌then◌else◌, length, map, min, nat_lt, slice_get, take, true, Option, Some, None, Ok, Err}
-use Rattle.cns_exceptions.specs.Common.{option_map_or, Account, Day, State, answer, opened, Command, Reply, Log, state_of, Line, state_after_line, blank_log, log_after, log_after_line, history, is_open, HistoryLine, Watched, Finding, Outcome, Played, Close, Survey, Activity}
-use Rattle.cns_terms.specs.declared.reply.Closed.{Closed}
+-- What is known of the records of an input: which of them are exceptions.
+use Rattle.std.specs.Prelude.{◌≡◌, ℕ, ◌+◌, ◌-◌, ◌^◌, ◌==◌, ◌&&◌, ◌||◌, Bool, false, is_none, List, [], ◌∷◌, ◌++◌, if◌then◌else◌, length, map, min, nat_lt, true, Option, Some, None, Ok, Err}
+use Rattle.cns_exceptions.specs.Common.{option_map_or, Account, Day, State, answer, Command, Reply, Log, state_of, Line, state_after_line, blank_log, log_after, log_after_line, history, HistoryLine, Watched, Finding, Outcome, Played, Survey, Activity}
 use Rattle.cns_feed.specs.Records.{IsReady, Pending}
 use Rattle.cns_feed.specs.declared.records.Records.{Records}
 use Rattle.cns_history.specs.Lines.{lines_of}
@@ -14,43 +13,35 @@ pub record Exception : Type 0 where
   pub reference : Option ℕ
   pub put_right : Option ℕ
 
--- what is known of records: how many there are, how many of them are exceptions, the accepted closes, and the numbers of the invalid
--- ones; and of a day, if one is looked at, whether the last record is one of it, the number of the record that closed the day before,
--- its exceptions' reasons, and the first 200 of these
+-- what is known of records: how many there are, how many of them are exceptions, and the numbers of the invalid ones; and of those
+-- that are looked at, which come after so many others, the exceptions' reasons, and the first 200 of these
 pub record Known : Type 0 where
-  pub day : Option Day
-  pub is_of_day : Bool
   pub from : ℕ
   pub records : ℕ
   pub exceptions : ℕ
   pub reasons : List Outcome
   pub first : List Exception
-  pub closes : List Close
   pub invalid : List ℕ
 
 -- of no records
-abbrev pub nothing : Option Day → Known
-nothing day = record { day = day; is_of_day = false; from = 0; records = 0; exceptions = 0; reasons = []; first = []; closes = []; invalid = [] }
+abbrev pub nothing : ℕ → Known
+nothing from = record { from = from; records = 0; exceptions = 0; reasons = []; first = []; invalid = [] }
 
--- whether the day with the date is open, if there is one
-abbrev pub is_day : State → Option Day → Bool
-is_day S day = option_map_or (is_open S) day false
-
--- one record more, which comes in a state
-abbrev pub counted : Known → State → Known
-counted k S = record k { records = k.records + 1; is_of_day = is_day S k.day }
+-- one record more
+abbrev pub counted : Known → Known
+counted k = record k { records = k.records + 1 }
 
 -- an invalid one more
 abbrev pub one_invalid : Known → Known
 one_invalid k = record k { invalid = k.invalid ++ k.records ∷ [] }
 
--- an exception more, of a command with the reference, if it is a trade; where the day is looked at closely its reason too, and where it
--- is one of the first 200 what is told of it
+-- an exception more, of a command with the reference, if it is a trade; where it is looked at its reason too, and where it is one of
+-- the first 200 what is told of it
 abbrev pub wanted : Known → Outcome → Option ℕ → Known
 wanted k w r =
     let more = record k { exceptions = min (k.exceptions + 1) (2 ^ 64 - 1) } in
     let told : Exception = record { number = k.records; why = w; reference = r; put_right = None } in
-    if k.is_of_day then record more { reasons = k.reasons ++ w ∷ []; first = if nat_lt (length k.first) 200 then k.first ++ told ∷ [] else k.first }
+    if nat_lt k.from k.records then record more { reasons = k.reasons ++ w ∷ []; first = if nat_lt (length k.first) 200 then k.first ++ told ∷ [] else k.first }
     else more
 
 -- the reference of a trade
@@ -71,16 +62,8 @@ abbrev pub righted : Known → Option ℕ → Known
 righted k None = k
 righted k (Some r) = record k { first = map (put_right_by k.records r) k.first }
 
--- it closed a day
-abbrev pub day_closed : Known → Closed → Known
-day_closed k c = record k {
-  closes = k.closes ++ record { day = c.day; date = c.date; number = k.records } ∷ [];
-  from = if k.is_of_day then k.from else k.records;
-}
-
 -- what the reply to its command tells
 abbrev pub replied : Known → Command → Reply → Known
-replied k cmd (Reply.Closed c) = day_closed k c
 replied k cmd (Reply.Refused r) = wanted k (Outcome.Refused r) (reference_of cmd)
 replied k cmd Reply.Accepted = righted k (reference_of cmd)
 replied k cmd _ = k
@@ -92,7 +75,7 @@ told_by k S (Err f) = wanted (one_invalid k) (Outcome.AtFault f) None
 
 -- one record more, and what it tells
 abbrev pub noted : Known → State → Line → Known
-noted k S l = told_by (counted k S) S l
+noted k S l = told_by (counted k) S l
 
 -- the same of records in order
 unfoldable pub noted_all : Known → State → List Line → Known
@@ -114,22 +97,13 @@ names a f = option_map_or (λ b. b == a) f.named.account false || option_map_or 
 -- what a survey knows
 abbrev pub known : Survey → Known
 known s = record {
-  day = s.day;
-  is_of_day = s.is_of_day;
   from = s.from;
   records = s.records;
   exceptions = s.exceptions;
   reasons = s.reasons.items;
   first = map told s.findings.items;
-  closes = s.closes.items;
   invalid = s.invalid.items;
 }
-
--- the last record of a survey closed the day with the date
-pub record IsClosedBy (s : Survey) (day : Day) (c : Close) : Type 0 where
-  pub last : slice_get s.closes.items (length s.closes.items - 1) ≡ Some c
-  pub ended : c.number ≡ s.records
-  pub dated : c.date ≡ day
 
 -- the first of some lines was taken and noted, and the lines of what is watched were added; the others are left
 pub record Takes {R : Type 0} (rem : R → Option (List ℕ)) (now : Records R) (w : Watched) (before after : Log) (s t : Survey) (old new : List HistoryLine) (all : List Line) : Type 0 where
@@ -141,22 +115,19 @@ pub record Takes {R : Type 0} (rem : R → Option (List ℕ)) (now : Records R) 
   pub knows : known t ≡ noted (known s) (state_of before) line
   pub told : new ≡ old ++ lines_of w (s.records + 1) (state_of before) line
 
--- what a read did to records, a book, a survey and the lines of what is watched: where it answers that a record ends there, the next
--- line was taken and noted; where it answers None, no line was left
-abbrev pub Steps : {R : Type 0} → (R → Option (List ℕ)) → Records R → Records R → Watched → Log → Log → Survey → Survey → List HistoryLine → List HistoryLine → Option ℕ → Type 0
-Steps rem a b w before after s t old new (Some end) =
+-- what a read did to records, a book, a survey and the lines of what is watched: where no line was left, nothing; else the next line was
+-- taken and noted
+abbrev pub Steps : {R : Type 0} → (R → Option (List ℕ)) → Records R → Records R → Watched → Log → Log → Survey → Survey → List HistoryLine → List HistoryLine → Bool → Type 0
+Steps rem a b w before after s t old new true = (after ≡ before) × (t ≡ s) × (new ≡ old) × ((all : List Line) → Pending rem a all → all ≡ [])
+Steps rem a b w before after s t old new false =
     IsReady b × (t.records ≡ s.records + 1) × ((all : List Line) → Pending rem a all → Takes rem b w before after s t old new all)
-Steps rem a b w before after s t old new None = (after ≡ before) × (t ≡ s) × (new ≡ old) × ((all : List Line) → Pending rem a all → all ≡ [])
 
--- what came of the first of some lines, as many as were counted; of all of them where there are no more
-pub record Came (w : Watched) (first now : Log) (from : Known) (s : Survey) (told : List HistoryLine) (whole : Bool) (all : List Line) : Type 0 where
-  pub log : now ≡ log_after first (take s.records all)
-  pub knows : known s ≡ noted_all from (state_of first) (take s.records all)
-  pub tells : told ≡ history w 0 (state_of first) (take s.records all)
-  pub all_taken : whole ≡ true → length all ≤ s.records
+-- what came of lines that were taken and noted, in order
+pub record Came (w : Watched) (first now : Log) (from : Known) (s : Survey) (told : List HistoryLine) (lines : List Line) : Type 0 where
+  pub log : now ≡ log_after first lines
+  pub knows : known s ≡ noted_all from (state_of first) lines
+  pub tells : told ≡ history w 0 (state_of first) lines
 
--- what was played of lines, which began on a date, with a day that was looked at and something that was watched
-pub record ComesTo (opening : Day) (day : Option Day) (w : Watched) (lines : List Line) (p : Played) : Type 0 where
-  pub book : p.book.log ≡ log_after (blank_log opening) lines
-  pub all_known : known p.survey ≡ noted_all (nothing day) (opened opening) lines
-  pub told : p.lines.items ≡ history w 0 (opened opening) lines
+-- what was played of lines on a book that opens on a date, those after the first so many looked at, with something that was watched
+abbrev pub ComesTo : Day → ℕ → Watched → List Line → Played → Type 0
+ComesTo opening from w lines p = Came w (blank_log opening) p.book.log (nothing from) p.survey p.lines.items lines

@@ -1,17 +1,17 @@
 // The records of an input, played on a book one after another.
-ghost use Rattle.std.specs.Prelude.{◌≡◌, ◌<◌, ◌≤◌, ◌+◌, ◌-◌, ◌^◌, ◌++◌, [], IfOk, List, OnOk, Some, length, take, true};
+ghost use Rattle.std.specs.Prelude.{◌≡◌, ◌<◌, ◌+◌, ◌-◌, ◌^◌, ◌++◌, [], IfOk, List, OnOk, take};
 ghost use Rattle.cns_book.specs.Log.{state_of};
 ghost use Rattle.cns_feed.specs.Line.{Line};
 ghost use Rattle.cns_feed.specs.Output.{lines_of};
 ghost use Rattle.cns_feed.specs.Records.{IsReady, Pending};
 ghost use Rattle.cns_feed.specs.Replay.{log_after_line};
 ghost use Rattle.cns_history.specs.Lines.{lines_of as watched_at};
-ghost use Rattle.cns_exceptions.specs.Survey.{Came, ComesTo, IsClosedBy, Steps, known, noted};
+ghost use Rattle.cns_exceptions.specs.Survey.{Came, ComesTo, Steps, known, noted};
 
-use crate::survey::{Close, Survey};
-use cns_feed::{Line, LineFault, MOST_RECORDS, Records, ReplayBook, ReplayFault};
+use crate::input::Input;
+use crate::survey::Survey;
+use cns_feed::{Line, LineFault, Records, ReplayBook, ReplayFault};
 use cns_history::{HistoryLine, Watched, take_watched};
-use cns_shell::Fault;
 use cns_units::Day;
 use std::alloc::Global;
 use std::io::Read;
@@ -22,10 +22,28 @@ pub struct Played {
     pub survey: Survey,
     pub lines: Vec<HistoryLine>,
     pub book: ReplayBook,
-    /// How many bytes of the input the records take.
-    pub bytes: usize,
-    /// Whether the input has no more.
-    pub is_whole: bool,
+}
+
+// The texts of the records of an input, one after another. No clause speaks of them.
+#[derive(Drop)]
+struct Texts {
+    input: Input,
+    // Where the last one ends.
+    end: u64,
+    text: Vec<u8>,
+}
+
+impl Texts {
+    // Goes on to the text of the record that ends there.
+    fn pass(&mut self, end: u64) -> Result<(), ReplayFault> {
+        let bytes = end.saturating_sub(self.end);
+        self.end = end;
+        self.text.clear();
+        match self.input.by_ref().take(bytes).read_to_end(&mut self.text) {
+            Ok(_) => Ok(()),
+            Err(_) => Err(ReplayFault::NoMemory),
+        }
+    }
 }
 
 // Takes the command that a record with the text was read as, if it is one, notes what came of it, and adds the lines of what is
@@ -44,7 +62,7 @@ fn take(
     ensures lines { OnOk result (lines.new.items
         ≡ lines.old.items ++ watched_at watched.now (survey.old.records + 1) (state_of book.old.log) line.now) }
 {
-    survey.count(book);
+    survey.count();
     match line {
         Ok(command) => {
             let number = survey.records;
@@ -57,130 +75,86 @@ fn take(
     Ok(())
 }
 
-// Takes the next record, which begins past so many bytes of the input, notes what came of it, and adds the lines of what is
-// watched. Answers where it ends; None where there is no more.
+// Takes the next record, notes what came of it, and adds the lines of what is watched. Answers whether there was none.
 fn step<R: Read>(
     records: &mut Records<R>,
+    texts: &mut Texts,
     book: &mut ReplayBook,
     watched: &Watched,
-    input: &[u8],
-    begin: usize,
     survey: &mut Survey,
     lines: &mut Vec<HistoryLine>,
-) -> Result<Option<usize>, ReplayFault>
+) -> Result<bool, ReplayFault>
     requires ready { IsReady records.old }
     requires few { survey.old.records < 2 ^ 64 - 1 }
     ensures { IfOk result (Steps R.remaining records.old records.new watched.now book.old.log book.new.log survey.old survey.new
         lines.old.items lines.new.items) }
 {
     let Some(line) = records.read_line()? else {
-        return Ok(None);
+        return Ok(true);
     };
-    let end = records.end() as usize;
-    let text = input.get(begin..end).unwrap_or(&[]);
-    take(book, watched, &line, text, survey, lines)?;
-    Ok(Some(end))
-}
-
-// The same for each record of an input, up to the one that closes the day that is looked at. Answers whether there is no more.
-fn play_with<R: Read>(
-    records: &mut Records<R>,
-    book: &mut ReplayBook,
-    watched: &Watched,
-    input: &[u8],
-    survey: &mut Survey,
-    lines: &mut Vec<HistoryLine>,
-) -> Result<bool, ReplayFault>
-    requires ready { IsReady records.old }
-    requires none { (survey.old.records ≡ 0) × (lines.old.items ≡ []) }
-    ensures { IfOk result (λ whole. (all : List Line) → Pending R.remaining records.old all
-        → Came watched.now book.old.log book.new.log (known survey.old) survey.new lines.new.items whole all) }
-{
-    let mut begin = 0;
-    for _turn in 0..MOST_RECORDS {
-        match step(records, book, watched, input, begin, survey, lines)? {
-            Some(end) => begin = end,
-            None => return Ok(true),
-        }
-        if survey.is_done() {
-            return Ok(false);
-        }
-    }
+    texts.pass(records.end())?;
+    take(book, watched, &line, texts.text.as_slice(), survey, lines)?;
     Ok(false)
 }
 
-// Takes the commands of the input's records, in order, on a new book that opens on the date, up to the one that closes the day that
-// is looked at, if there is one, and to 4,294,967,295 at most; notes the exceptions and the closes, and tells the lines of what is
-// watched.
-//
-// `NoMemory` where an allocation failed. `Full` does not come, since the history has room for as many commands, and no
-// `Read`, since the input is in memory.
-fn play(
+// The same for the first records, so many.
+fn play_with<R: Read>(
+    records: &mut Records<R>,
+    most: u64,
+    texts: &mut Texts,
+    book: &mut ReplayBook,
+    watched: &Watched,
+    survey: &mut Survey,
+    lines: &mut Vec<HistoryLine>,
+) -> Result<(), ReplayFault>
+    requires ready { IsReady records.old }
+    requires none { (survey.old.records ≡ 0) × (lines.old.items ≡ []) }
+    ensures { OnOk result ((all : List Line) → Pending R.remaining records.old all
+        → Came watched.now book.old.log book.new.log (known survey.old) survey.new lines.new.items (take most all)) }
+{
+    for _turn in 0..most {
+        if step(records, texts, book, watched, survey, lines)? {
+            return Ok(());
+        }
+    }
+    Ok(())
+}
+
+/// Takes the commands of the first records of an input, so many, in order, on a new book that opens on the date; notes the exceptions,
+/// those after the first `from` records closely, and tells the lines of what is watched. The input's memory is given back as it is read.
+///
+/// `NoMemory` where an allocation failed. `Full` comes only after 4,294,967,295 commands, and no `Read`, since the input is in memory.
+pub fn play_first(
     alloc: Global,
-    input: &[u8],
+    input: Input,
     opening: Day,
-    day: Option<Day>,
+    from: u64,
+    most: u64,
     watched: &Watched,
 ) -> Result<Played, ReplayFault>
-    ensures after { IfOk result (λ p. ComesTo opening day watched.now (take p.survey.records (lines_of input.now)) p) }
-    ensures whole { IfOk result (λ p. p.is_whole ≡ true → length (lines_of input.now) ≤ p.survey.records) }
+    ensures { IfOk result (ComesTo opening from watched.now (take most (lines_of input))) }
 {
-    let mut book = ReplayBook::new(alloc, opening)?;
+    let mut texts = Texts {
+        input: input.copied(alloc)?,
+        end: 0,
+        text: Vec::new(alloc),
+    };
     let mut records = Records::new(alloc, input);
-    let mut survey = Survey::new(alloc, day);
+    let mut book = ReplayBook::new(alloc, opening)?;
+    let mut survey = Survey::new(alloc, from);
     let mut lines = Vec::new(alloc);
-    let is_whole = play_with(
+    play_with(
         &mut records,
+        most,
+        &mut texts,
         &mut book,
         watched,
-        input,
         &mut survey,
         &mut lines,
     )?;
-    let bytes = records.end() as usize;
     Ok(Played {
         survey,
         lines,
         book,
-        bytes,
-        is_whole,
     })
-}
-
-/// Plays all records of an input, with a day looked at closely, if one is given. `Read` where there are 4,294,967,295 or more.
-pub fn play_all(
-    alloc: Global,
-    input: &[u8],
-    opening: Day,
-    day: Option<Day>,
-    watched: &Watched,
-) -> Result<Played, ReplayFault>
-    ensures { IfOk result (ComesTo opening day watched.now (lines_of input.now)) }
-{
-    let played = play(alloc, input, opening, day, watched)?;
-    if played.is_whole {
-        Ok(played)
-    } else {
-        Err(ReplayFault::Read)
-    }
-}
-
-/// Plays the records of an input up to the close of the day with the date, which is looked at closely. `NoSuchDay` where they do not
-/// close it, and `Read` where there are 4,294,967,295 before they do.
-pub fn play_closed(
-    alloc: Global,
-    input: &[u8],
-    opening: Day,
-    day: Day,
-    watched: &Watched,
-) -> Result<(Close, Played), Fault>
-    ensures after { IfOk result (λ r. ComesTo opening (Some day) watched.now (take r.0.number (lines_of input.now)) r.1) }
-    ensures closed { IfOk result (λ r. IsClosedBy r.1.survey day r.0) }
-{
-    let played = play(alloc, input, opening, Some(day), watched)?;
-    match played.survey.close(day) {
-        Some(close) => Ok((close, played)),
-        None if played.is_whole => Err(Fault::NoSuchDay),
-        None => Err(Fault::Read),
-    }
 }

@@ -52,8 +52,8 @@ impl<R: Read> Read for CountingReader<R> {
     }
 }
 
-// One call of `read`, made again where a signal interrupts it, as std's `read_exact` and `read_to_end` do.
-fn read_some<R: Read>(reader: &mut R, buf: &mut [u8]) -> io::Result<usize>
+/// One call of `read`, made again where a signal interrupts it, as std's `read_exact` and `read_to_end` do.
+pub fn read_some<R: Read>(reader: &mut R, buf: &mut [u8]) -> io::Result<usize>
     ensures bound { ReadsAtMost result buf.new }
     ensures bytes { ReadConsumes (R.remaining reader.old) (R.remaining reader.new) result buf.new }
 {

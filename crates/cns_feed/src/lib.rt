@@ -26,6 +26,7 @@ mod source;
 mod summary;
 mod text;
 
+pub use counting::read_some;
 pub use fault::{LineFault, ReplayFault};
 pub use fields::account_of;
 pub use line::{Line, command_of};

@@ -17,6 +17,5 @@ pub use Rattle.cns_page.specs.Account.{IsOwnPage}
 pub use Rattle.cns_page.specs.Files.{KeptPages, and_kept}
 pub use Rattle.cns_page.specs.Folder.{KeepsOwn}
 unfoldable pub use Rattle.cns_exceptions.specs.Survey.{noted_all}
-pub use Rattle.cns_exceptions.specs.Survey.{ComesTo, IsClosedBy, Known, noted, nothing}
-pub use Rattle.cns_exceptions.specs.declared.survey.Close.{Close}
+pub use Rattle.cns_exceptions.specs.Survey.{ComesTo, Known, noted, nothing}
 pub use Rattle.cns_history.specs.declared.watched.Watched.{Watched}

@@ -33,7 +33,7 @@ pub use Rattle.cns_day.specs.declared.projection.Due.{Due}
 pub use Rattle.cns_exceptions.specs.declared.counts.Counted.{Counted}
 pub use Rattle.cns_page.specs.declared.closed.Shared.{Shared}
 pub use Rattle.cns_day.specs.declared.shorts.Aged.{Aged}
-pub use Rattle.cns_exceptions.specs.declared.survey.Close.{Close}
+pub use Rattle.cns_exceptions.specs.declared.days.Close.{Close}
 pub use Rattle.cns_exceptions.specs.declared.survey.Survey.{Survey}
 pub use Rattle.cns_exceptions.specs.declared.counts.Span.{Span}
 pub use Rattle.cns_tables.specs.declared.piece.Piece.{Piece}

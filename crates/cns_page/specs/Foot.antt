@@ -1,13 +1,13 @@
 -- The foot of a page.
-use Rattle.std.specs.Prelude.{◌≡◌, ℕ, List, [], ◌∷◌, ◌++◌, Option, None, Some, length, string_bytes}
+use Rattle.std.specs.Prelude.{◌≡◌, ℕ, List, [], ◌∷◌, ◌++◌, ◌-◌, ◌^◌, Option, None, Some, length, min, string_bytes}
 use Rattle.cns_page.specs.Common.{Account, decimal, day_text, Day, escaped, Origin, filled}
 use Rattle.cns_page.specs.declared.foot.TheConstants.{ACCOUNT_OPTION, AGAIN, MADE, TODAY}
 use Rattle.hex.specs.Hex.{encode_lower}
 use Rattle.sha2.specs.Sha256.{sha256}
 
--- what some bytes are: how many, and their SHA-256 in hexadecimal digits
+-- what some bytes are: how many, as far as the count goes, and their SHA-256 in hexadecimal digits
 pub record IsOrigin (input : List ℕ) (o : Origin) : Type 0 where
-  pub bytes : o.bytes ≡ length input
+  pub bytes : o.bytes ≡ min (length input) (2 ^ 64 - 1)
   pub digest : string_bytes o.digest ≡ encode_lower (sha256 input)
 
 -- what `--day` takes for a closed day, or for the open one

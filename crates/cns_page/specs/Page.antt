@@ -26,7 +26,7 @@ pub record AreContents (d : ClosedDay) (accounts : List Account) (l : Contents) 
   pub issues : AreIssues (arc_value d.sheet).rows l.issues.items
   pub due : l.due.items ≡ map (due_at (state_of d.played.book.log) d.shared.later) (keys d.shared.later.shares)
   pub rising : IsOrdered key_cmp d.shared.later.shares
-  pub days : l.days.items ≡ figures_shown (state_of d.played.book.log) (last_closes d.played.survey.closes.items)
+  pub days : l.days.items ≡ figures_shown (state_of d.played.book.log) (last_closes d.closes.items)
 
 -- how many rows each table has
 abbrev pub row_counts : ClosedDay → Contents → List Span → List ℕ
@@ -61,7 +61,7 @@ link_text l = filled LINK.now (day_text l.date ∷ decimal l.account ∷ decimal
 -- the links to the pages of the day before, of the next day, and of the accounts, where the page has links
 abbrev pub links_text : ClosedDay → List Link → List ℕ
 links_text d ls =
-    if d.is_linked then before_text (date_before d.played.survey.closes.items)
+    if d.is_linked then before_text (date_before d.closes.items)
     ++ (filled DAY_AFTER.now (day_text (next_day d.played.book.log) ∷ []) ++ (flat_map link_text ls ++ LINKED.now)) else []
 
 -- a page with some captions: the head, these tables in this order, and the foot

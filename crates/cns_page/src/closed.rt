@@ -1,20 +1,24 @@
 // A closed day, of the records of an input.
-ghost use Rattle.std.specs.Prelude.{◌≡◌, IfOk, take};
-ghost use Rattle.cns_page.specs.Closed.{AreShared, IsClosedDay, date_before};
+ghost use Rattle.std.specs.Prelude.{◌≡◌, ◌-◌, IfOk, IfSome, Some, length, slice_get, take};
+ghost use Rattle.cns_exceptions.specs.Days.{ended};
+ghost use Rattle.cns_page.specs.declared.asked.When.{When};
+ghost use Rattle.cns_page.specs.Closed.{AreShared, IsAsked, IsAskedDay, IsPlayed, close_before, date_before, is_folder, watched_for};
 
+use crate::asked::{About, Asked, When};
 use crate::foot::{Origin, origin_of};
 use cns_account::{DayMoves, Past, moves_of_day, past_of};
 use cns_day::{
     Aged, Due, Later, Numbered, Owing, dues_of, later_shares, liable_members, live_notices,
     shorts_of,
 };
-use cns_exceptions::{Close, Played, play_closed};
-use cns_history::Watched;
+use cns_exceptions::{Close, Input, Played, days_of, play_first};
+use cns_history::{Watched, Whose};
 use cns_sheets::Sheet;
 use cns_shell::Fault;
 use cns_terms::NoMemory;
 use cns_units::Day;
 use std::alloc::Global;
+use std::io::Read;
 use std::sync::Arc;
 
 /// What the page of a closed day shows of all accounts, and an account's page of its own.
@@ -40,6 +44,8 @@ pub struct Shared {
 pub struct ClosedDay {
     /// The date on which the book was opened.
     pub opening: Day,
+    /// The closes up to the day's own.
+    pub closes: Vec<Close>,
     pub close: Close,
     /// The bytes of the records.
     pub origin: Origin,
@@ -51,23 +57,75 @@ pub struct ClosedDay {
     pub is_linked: bool,
 }
 
-/// The date of the close before the last one, if there is one.
+/// The closes up to that of the day that is asked for, where there is one; else some of the first ones.
+pub(crate) fn front_to(closes: Vec<Close>, when: When) -> Vec<Close>
+    ensures front { result.items ≡ take (length result.items) closes.items }
+    ensures whole { when ≡ When.Last → result.items ≡ closes.items }
+{
+    let mut closes = closes;
+    if let When::Closed(day) = when {
+        let place = closes.iter().position(|close| close.date == day);
+        closes.truncate(place.unwrap_or(0).saturating_add(1));
+    }
+    closes
+}
+
+/// The last of the closes up to that of the day that is asked for, where there is such a day.
+pub(crate) fn last_asked(closes: &[Close], when: When) -> Option<Close>
+    ensures last { IfSome result (λ c. slice_get closes.now (length closes.now - 1) ≡ Some c) }
+    ensures asked { IfSome result (λ c. IsAsked when (ended c)) }
+{
+    let close = *closes.last()?;
+    let is_asked = match when {
+        When::Last => true,
+        When::Closed(day) => close.date.is_same(&day),
+        When::Today => false,
+    };
+    is_asked.then_some(close)
+}
+
+// The close before the last one, if there is one.
+fn close_before(closes: &[Close]) -> Option<Close>
+    ensures { result ≡ close_before closes.now }
+{
+    let place = closes.len().checked_sub(2)?;
+    closes.get(place).copied()
+}
+
+/// Its date.
 pub(crate) fn date_before(closes: &[Close]) -> Option<Day>
     ensures { result ≡ date_before closes.now }
 {
-    let place = closes.len().checked_sub(2)?;
-    let close = closes.get(place)?;
-    Some(close.date)
+    Some(close_before(closes)?.date)
+}
+
+// What is watched for what is asked for, on the day with the date.
+fn watched_for(about: About, date: Day) -> Watched
+    ensures { result ≡ watched_for about date }
+{
+    match about {
+        About::All | About::Place(_) => Watched::Movements(date),
+        About::Account(account) => Watched::Bookings(Whose::One(account), date),
+        About::Folder => Watched::Bookings(Whose::All, date),
+    }
+}
+
+// Whether pages are for a folder.
+fn is_folder(about: About) -> bool
+    ensures { result ≡ is_folder about }
+{
+    matches!(about, About::Folder)
 }
 
 // What the pages of a day and of its accounts show both.
 fn shared_of(
     alloc: Global,
     played: &Played,
+    before: Option<Day>,
     close: &Close,
     sheet: &Sheet<Global>,
 ) -> Result<Shared, NoMemory>
-    ensures { IfOk result (AreShared played.now close.now sheet.now) }
+    ensures { IfOk result (AreShared played.now before close.now sheet.now) }
 {
     let book = &played.book;
     let shorts = shorts_of(alloc, book, sheet)?;
@@ -75,7 +133,6 @@ fn shared_of(
     let notices = live_notices(alloc, book)?;
     let trades = dues_of(alloc, book, sheet.date())?;
     let later = later_shares(alloc, trades.as_slice())?;
-    let before = date_before(played.survey.closes.as_slice());
     let moves = moves_of_day(alloc, book, before, close.date, played.lines.as_slice())?;
     let past = past_of(alloc, book)?;
     Ok(Shared {
@@ -89,42 +146,51 @@ fn shared_of(
     })
 }
 
-// The first bytes of an input, so many.
-fn first_of(input: &[u8], bytes: usize) -> &[u8]
-    ensures { result.now ≡ take bytes input.now }
+// The records of an input up to a close, those behind the close before looked at closely.
+fn play_day(
+    alloc: Global,
+    asked: &Asked,
+    input: Input,
+    closes: &[Close],
+    close: &Close,
+) -> Result<Played, Fault>
+    ensures { IfOk result (IsPlayed asked.now input closes.now close.now) }
 {
-    &input[..bytes.min(input.len())]
+    let from = match close_before(closes) {
+        Some(before) => before.number,
+        None => 0,
+    };
+    let watched = watched_for(asked.about, close.date);
+    Ok(play_first(alloc, input, asked.opening, from, close.number, &watched)?)
 }
 
-/// The closed day with the date, of the records up to its close alone. The input is let go before anything is gathered.
-/// `NoSuchDay` where the records close no day with the date.
-pub(crate) fn closed_day(
-    alloc: Global,
-    opening: Day,
-    input: Vec<u8>,
-    day: Day,
-    watched: &Watched,
-    is_linked: bool,
-) -> Result<ClosedDay, Fault>
-    ensures { IfOk result (IsClosedDay opening input.items day watched.now is_linked) }
+/// The closed day that is asked for, of the records up to its close alone. `NoSuchDay` where the records close no such day.
+pub(crate) fn asked_day(alloc: Global, asked: &Asked, input: Input) -> Result<ClosedDay, Fault>
+    ensures { IfOk result (IsAskedDay asked.now input) }
 {
-    let (close, played) = play_closed(alloc, input.as_slice(), opening, day, watched)?;
-    let origin = origin_of(alloc, first_of(input.as_slice(), played.bytes))?;
-    drop(input);
+    let days = days_of(alloc, input.copied(alloc)?, asked.opening)?;
+    let closes = front_to(days.closes, asked.day);
+    let Some(close) = last_asked(closes.as_slice(), asked.day) else {
+        return Err(Fault::NoSuchDay);
+    };
+    let origin = origin_of(alloc, input.copied(alloc)?.take(close.end))?;
+    let played = play_day(alloc, asked, input, closes.as_slice(), &close)?;
     let Some(sheet) = played.book.sheet(close.date) else {
         return Err(Fault::NoSuchDay);
     };
     let Ok(sheet) = Arc::try_clone(sheet) else {
         return Err(Fault::NoMemory);
     };
-    let shared = shared_of(alloc, &played, &close, &sheet)?;
+    let before = date_before(closes.as_slice());
+    let shared = shared_of(alloc, &played, before, &close, &sheet)?;
     Ok(ClosedDay {
-        opening,
+        opening: asked.opening,
+        closes,
         close,
         origin,
         played,
         sheet,
         shared,
-        is_linked,
+        is_linked: is_folder(asked.about),
     })
 }

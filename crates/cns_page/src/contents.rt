@@ -71,7 +71,7 @@ pub(crate) fn contents_of(
     let lines = lines_of(alloc, &day.sheet, &day.shared.moves)?;
     let issues = issue_sums(alloc, &day.sheet)?;
     let due = all_due(alloc, book, &day.shared.later)?;
-    let days = line_of_days(alloc, book, last_of(survey.closes.as_slice()))?;
+    let days = line_of_days(alloc, book, last_of(day.closes.as_slice()))?;
     Ok(Contents {
         links,
         reasons,

@@ -1,5 +1,5 @@
 // The line of the program, done.
-ghost use Rattle.std.specs.Prelude.{◌≡◌, ◌≤◌, IfOk, IfSome, None, OnOk, Some, map};
+ghost use Rattle.std.specs.Prelude.{◌≡◌, ◌≤◌, IfSome, None, OnOk, Some, map};
 ghost use Rattle.cns_units.specs.Output.{Writes};
 ghost use Rattle.cns_shell.specs.Faults.{fault_line};
 ghost use Rattle.cns_shell.specs.declared.fault.Fault.{Fault};
@@ -10,30 +10,16 @@ ghost use Rattle.cns_page.specs.Usage.{usage_line};
 use crate::asked::{About, Asked, asked_of};
 use crate::files::{Folder, check_folder};
 use crate::make::make;
+use cns_exceptions::Input;
 use cns_shell::{Ended, Fault, fail, refuse_usage};
-use std::alloc::Global;
 use std::convert::AsStr;
 use std::fs::File;
-use std::io::{ErrorKind, Read, Write};
+use std::io::{Read, Write};
 use std::rt::Files;
 
 /// The usage, for a line that is refused.
 pub const USAGE: &[u8] =
     b"usage: cnspage --open DATE [--day DATE|today] [--account N [--issue CUSIP] | --folder DIR] < RECORDS\n";
-
-// All bytes of the input.
-fn bytes_of<I: Read>(alloc: Global, input: &mut I) -> Result<Vec<u8>, Fault>
-    ensures { IfOk result (λ v. IfSome (I.remaining input.old) (λ bytes. v.items ≡ bytes)) }
-{
-    let mut bytes = Vec::new(alloc);
-    match input.read_to_end(&mut bytes) {
-        Ok(_) => Ok(bytes),
-        Err(error) => match error.kind() {
-            ErrorKind::OutOfMemory => Err(Fault::NoMemory),
-            _ => Err(Fault::Read),
-        },
-    }
-}
 
 // Checks, before anything is read, that a folder that pages are asked for in is there.
 fn check_asked<R: Files>(rt: &R, about: About, folder: &str) -> Result<(), Fault> {
@@ -57,9 +43,9 @@ fn make_of<R: AllocGlobal + Files<File = File>, I: Read, O: Write>(
 {
     check_asked(rt, asked.about, folder)?;
     let alloc = rt.alloc();
-    let bytes = bytes_of(alloc, input)?;
+    let records = Input::read(alloc, input)?;
     let mut folder = Folder { rt, path: folder };
-    make(alloc, asked, bytes, &mut folder, output)
+    make(alloc, asked, records, &mut folder, output)
 }
 
 /// Runs the program on the words of its line, its name first, and tells what writing its line to `errors` came to.

@@ -1,16 +1,16 @@
 // The foot of a page: how it is made again, from which bytes it was made, and how many rows it has, so that a page that was cut is
 // seen.
-ghost use Rattle.std.specs.Prelude.{◌≡◌, IfOk, OnOk};
+ghost use Rattle.std.specs.Prelude.{◌≡◌, IfOk, IfSome, OnOk};
 ghost use Rattle.std.specs.Io.KnownBytes.{Appends};
 ghost use Rattle.cns_page.specs.Foot.{IsOrigin, account_part, day_word, foot_text, made_text};
 ghost use Rattle.cns_tables.specs.Pieces.{piece_text};
 
+use cns_shell::Fault;
 use cns_tables::{Piece, write_form};
-use cns_terms::NoMemory;
 use cns_units::{Account, Day, WriteFault};
 use sha2::{Digest, Sha256};
 use std::alloc::Global;
-use std::io::Write;
+use std::io::{Read, Write};
 
 /// What a page was made of.
 #[derive(Drop)]
@@ -40,15 +40,29 @@ const MADE: &str = " &lt; records &gt; day.html</code></pre>
 </html>
 ";
 
-/// What the bytes are, for the foot of a page that is made of them.
-pub(crate) fn origin_of(alloc: Global, input: &[u8]) -> Result<Origin, NoMemory>
-    ensures { IfOk result (IsOrigin input.now) }
+/// What all bytes of a reader are, for the foot of a page that is made of them.
+pub(crate) fn origin_of<R: Read + Drop>(alloc: Global, reader: R) -> Result<Origin, Fault>
+    ensures { IfOk result (λ o. IfSome (R.remaining reader) (λ bytes. IsOrigin bytes o)) }
 {
-    let digest = hex::encode(alloc, &Sha256::digest(input))?;
-    Ok(Origin {
-        bytes: input.len() as u64,
-        digest,
-    })
+    let mut reader = reader;
+    let mut hasher = Sha256::new();
+    let mut bytes: u64 = 0;
+    let mut block = [0; 8192];
+    for _ in 0..u64::MAX {
+        let count = match reader.read(&mut block) {
+            Ok(count) => count,
+            Err(_) => return Err(Fault::Read),
+        };
+        if count == 0 {
+            let Ok(digest) = hex::encode(alloc, &hasher.finalize()) else {
+                return Err(Fault::NoMemory);
+            };
+            return Ok(Origin { bytes, digest });
+        }
+        hasher.update(&block[..count]);
+        bytes = bytes.saturating_add(count as u64);
+    }
+    Err(Fault::Read)
 }
 
 // What `--day` takes for a closed day, or for the day that is open.

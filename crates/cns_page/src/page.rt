@@ -90,7 +90,7 @@ fn write_links<W: Write>(day: &ClosedDay, links: &[Link], writer: &mut W) -> Res
     if !day.is_linked {
         return Ok(());
     }
-    write_before(date_before(day.played.survey.closes.as_slice()), writer)?;
+    write_before(date_before(day.closes.as_slice()), writer)?;
     write_form(DAY_AFTER, &[Piece::Date(day.played.book.today())], writer)?;
     write_rows(links, writer)?;
     write_markup(LINKED, writer)

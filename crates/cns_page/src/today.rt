@@ -1,22 +1,33 @@
 // The page of the day that is open: its exceptions so far, and how many records there are.
-ghost use Rattle.std.specs.Prelude.{◌≡◌, IfOk, OnOk};
+ghost use Rattle.std.specs.Prelude.{◌≡◌, IfOk, OnOk, take};
 ghost use Rattle.std.specs.Io.KnownBytes.{Appends};
 ghost use Rattle.cns_feed.specs.Output.{lines_of};
-ghost use Rattle.cns_feed.specs.Replay.{blank_log, log_after};
-ghost use Rattle.cns_day.specs.Listed.{next_day};
+ghost use Rattle.cns_exceptions.specs.Survey.{ComesTo};
+ghost use Rattle.cns_history.specs.declared.watched.Watched.{Watched};
 ghost use Rattle.cns_page.specs.Page.{sum_of};
-ghost use Rattle.cns_page.specs.Today.{IsTodayPage, head_text, row_counts, today_text};
+ghost use Rattle.cns_page.specs.Today.{IsOpenDay, IsTodayPage, head_text, last_number, row_counts, today_text};
 
 use crate::captions::{CAPTIONS, Captions};
 use crate::contents::sum_of;
 use crate::foot::{Origin, origin_of, write_foot};
-use cns_exceptions::{Counted, Played, Span, Survey, counts_of, play_all, spans_of};
+use cns_exceptions::{Counted, Days, Input, Played, Span, Survey, counts_of, days_of, play_first, spans_of};
 use cns_history::Watched;
 use cns_shell::Fault;
 use cns_tables::{Piece, START, page_style, write_form, write_table};
 use cns_units::{Day, WriteFault};
 use std::alloc::Global;
 use std::io::Write;
+
+/// The day that is open after all records of an input.
+#[derive(Drop)]
+pub struct OpenDay {
+    /// The date on which the book was opened.
+    pub opening: Day,
+    /// What the records came to.
+    pub played: Played,
+    /// Their bytes.
+    pub origin: Origin,
+}
 
 // The head: start, date, style, date, the day's number, the number of the record before it, how many records, and exceptions.
 const HEAD: &str = "_Open day _</title>
@@ -59,55 +70,57 @@ fn rows_of(survey: &Survey, reasons: &[Counted], totals: &[Span]) -> u64
 #[tactic(auto, using(cns_tables::proofs::Written::after))]
 fn write_text<W: Write>(
     captions: &Captions,
-    opening: Day,
-    played: &Played,
+    day: &OpenDay,
     reasons: &[Counted],
     totals: &[Span],
-    origin: &Origin,
     writer: &mut W,
 ) -> Result<(), WriteFault>
     ensures { OnOk result (Appends (W.contents writer.old) (W.contents writer.new)
-        (today_text captions.now.exceptions captions.now.reasons captions.now.totals opening played.now reasons.now totals.now origin.now)) }
+        (today_text captions.now.exceptions captions.now.reasons captions.now.totals day.now reasons.now totals.now)) }
 {
-    let rows = rows_of(&played.survey, reasons, totals);
-    write_head(played, writer)?;
-    write_table(
-        &captions.exceptions,
-        played.survey.findings.as_slice(),
-        writer,
-    )?;
+    let survey = &day.played.survey;
+    let rows = rows_of(survey, reasons, totals);
+    write_head(&day.played, writer)?;
+    write_table(&captions.exceptions, survey.findings.as_slice(), writer)?;
     write_table(&captions.reasons, reasons, writer)?;
     write_table(&captions.totals, totals, writer)?;
-    write_foot(opening, None, None, origin, rows, writer)
+    write_foot(day.opening, None, None, &day.origin, rows, writer)
 }
 
-// The date of the day that is open after all records.
-fn open_day(alloc: Global, opening: Day, input: &[u8]) -> Result<Day, Fault>
-    ensures { IfOk result (λ d. d ≡ next_day (log_after (blank_log opening) (lines_of input.now))) }
+// All records of an input, those after the last close looked at closely.
+fn play_open(alloc: Global, opening: Day, input: Input, days: &Days) -> Result<Played, Fault>
+    ensures { IfOk result (ComesTo opening (last_number days.now.closes.items) Watched.Nothing (take days.now.records (lines_of input))) }
 {
-    let played = play_all(alloc, input, opening, None, &Watched::Nothing)?;
-    Ok(played.book.today())
+    let from = match days.closes.last() {
+        Some(close) => close.number,
+        None => 0,
+    };
+    Ok(play_first(alloc, input, opening, from, days.records, &Watched::Nothing)?)
+}
+
+// The day that is open after all records of an input.
+fn open_day(alloc: Global, opening: Day, input: Input) -> Result<OpenDay, Fault>
+    ensures { IfOk result (IsOpenDay opening input) }
+{
+    let days = days_of(alloc, input.copied(alloc)?, opening)?;
+    let origin = origin_of(alloc, input.copied(alloc)?)?;
+    let played = play_open(alloc, opening, input, &days)?;
+    Ok(OpenDay {
+        opening,
+        played,
+        origin,
+    })
 }
 
 /// The page of the day that is open after all records of an input, those after the last close looked at closely.
-pub(crate) fn today_page(alloc: Global, opening: Day, input: &[u8]) -> Result<Vec<u8>, Fault>
-    ensures { IfOk result (λ v. IsTodayPage opening input.now v.items) }
+pub(crate) fn today_page(alloc: Global, opening: Day, input: Input) -> Result<Vec<u8>, Fault>
+    ensures { IfOk result (λ v. IsTodayPage opening input v.items) }
 {
-    let date = open_day(alloc, opening, input)?;
-    let played = play_all(alloc, input, opening, Some(date), &Watched::Nothing)?;
-    let reasons = counts_of(alloc, played.survey.reasons.as_slice())?;
-    let totals = spans_of(&played.survey);
-    let origin = origin_of(alloc, input)?;
+    let day = open_day(alloc, opening, input)?;
+    let reasons = counts_of(alloc, day.played.survey.reasons.as_slice())?;
+    let totals = spans_of(&day.played.survey);
     let mut page = Vec::new(alloc);
-    match write_text(
-        &CAPTIONS,
-        opening,
-        &played,
-        reasons.as_slice(),
-        &totals,
-        &origin,
-        &mut page,
-    ) {
+    match write_text(&CAPTIONS, &day, reasons.as_slice(), &totals, &mut page) {
         Ok(()) => Ok(page),
         Err(_) => Err(Fault::NoMemory),
     }

@@ -1,4 +1,4 @@
-use Rattle.cns_exceptions.proofs.Common.{◌+◌, ap, false, ◌∙◌}
+use Rattle.cns_exceptions.proofs.Common.{◌≡◌, ◌+◌, ap, ◌∙◌, arith}
 use Rattle.cns_exceptions.proofs.PlayLemmas.{along_came, along_end, along_line, along_none}
 use Rattle.cns_exceptions.proofs.play.play_with.Goals as goal
 
@@ -9,22 +9,14 @@ loop-turn-init g c = record {
   along = λ all left. along_none g.R.Read.remaining c.args.records.now c.args.watched.now c.args.book.now.log c.args.survey.now _ all c.requires.none.1 left;
 }
 
-pub returns-in-None : goal.returns-in-None
-returns-in-None g c all left =
-    along_end g.R.Read.remaining c.loop-turn.records c.args.watched.now _ _ _ _ _ _ _ _ _ all (rw c.in-None.is at c.in_ok-end.ensures) c.loop-turn.invariant.count (c.loop-turn.invariant.along all left)
-
-pub returns-then-is_done : goal.returns-then-is_done
-returns-then-is_done g c all left =
-    let inv = c.loop-turn.invariant in
-    let one = rw c.in-Some.is at c.in_ok-end.ensures in
-    along_came g.R.Read.remaining c.step.new.records c.args.watched.now _ _ _ _ _ _ false all
-    (along_line g.R.Read.remaining c.loop-turn.records c.step.new.records c.args.watched.now _ _ _ _ _ _ _ _ _ all inv.count one.2 (inv.along all left))
-    (one.1 ∙ ap (λ n. n + 1) inv.count) (λ t. cc)
+pub returns-then-branch : goal.returns-then-branch
+returns-then-branch g c all left =
+    along_end g.R.Read.remaining c.loop-turn.records c.args.watched.now _ _ _ _ _ _ _ _ _ _ all (rw c.if-branch.true at c.in_ok-step.ensures) c.loop-turn-test.true (c.loop-turn.invariant.along all left)
 
 pub loop-turn-preserved : goal.loop-turn-preserved
 loop-turn-preserved g c =
     let inv = c.loop-turn.invariant in
-    let one = rw c.in-Some.is at c.in_ok-end.ensures in
+    let one = rw c.if-branch.false at c.in_ok-step.ensures in
     record {
       ready = one.0;
       count = one.1 ∙ ap (λ n. n + 1) inv.count;
@@ -33,4 +25,7 @@ loop-turn-preserved g c =
 
 pub returns : goal.returns
 returns g c all left =
-    along_came g.R.Read.remaining c.loop-turn.records c.args.watched.now _ _ _ _ _ _ false all (c.loop-turn.invariant.along all left) c.loop-turn.invariant.count (λ t. cc)
+    let end = c.loop-turn.auto._turn-end in
+    let over = c.loop-turn-test.false in
+    let turned : c.args.most ≡ c.loop-turn._turn = omega (arith, end, over) in
+    rw turned (along_came g.R.Read.remaining c.loop-turn.records c.args.watched.now _ _ _ _ _ _ all (c.loop-turn.invariant.along all left))

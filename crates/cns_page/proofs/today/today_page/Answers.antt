@@ -2,14 +2,12 @@ use Rattle.cns_page.proofs.today.today_page.Goals as goal
 
 pub returns-in-Ok : goal.returns-in-Ok
 returns-in-Ok c = record {
-  played = c.in_ok-played.played;
-  all_played = rw (c.in_ok-date.ensures, ← c.in_ok-played.ensures.book) at c.in_ok-played.ensures;
+  day = _;
+  is_day = c.in_ok-day.ensures;
   reasons = _;
   counted = rw c.as_slice.ensures.value at c.in_ok-reasons.ensures;
   totals = _;
   spans = c.spans_of-totals.ensures;
-  origin = _;
-  made_of = c.in_ok-origin.ensures;
   exceptions_table = _;
   reasons_table = _;
   totals_table = _;
