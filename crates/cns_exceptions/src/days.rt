@@ -46,7 +46,10 @@ fn next_day(line: &Line, today: Day) -> Option<Day>
 }
 
 // The next record, as the day that it opens, if it does; None where there is no more.
-fn read_day<R: Read>(records: &mut Records<R>, today: Day) -> Result<Option<Option<Day>>, ReplayFault>
+fn read_day<R: Read>(
+    records: &mut Records<R>,
+    today: Day,
+) -> Result<Option<Option<Day>>, ReplayFault>
     requires { IsReady records.old }
     ensures { IfOk result (ReadsDay R.remaining records.old records.new today) }
 {

@@ -12,8 +12,8 @@ use std::io::{ErrorKind, Read};
 use std::marker::Model;
 use std::rc::Rc;
 
-// About how many bytes make a block.
-const BLOCK: usize = 65_536;
+// About how many bytes make a block: so many that the C library gives its memory back to the system once it is freed.
+const BLOCK: usize = 1_048_576;
 
 /// The bytes of an input, from some place on. Contracts see them. A block that was read is given back once no copy has it.
 #[derive(Drop)]
@@ -84,11 +84,7 @@ impl Input {
 }
 
 // Adds a block behind the others.
-fn keep(
-    alloc: Global,
-    blocks: &mut VecDeque<Rc<Vec<u8>>>,
-    block: Vec<u8>,
-) -> Result<(), NoMemory>
+fn keep(alloc: Global, blocks: &mut VecDeque<Rc<Vec<u8>>>, block: Vec<u8>) -> Result<(), NoMemory>
     ensures { OnOk result (flat_map (λ b. vec_items (rc_value b)) blocks.new.items
         ≡ flat_map (λ b. vec_items (rc_value b)) blocks.old.items ++ block.items) }
 {

@@ -10,7 +10,9 @@ ghost use Rattle.cns_page.specs.Today.{IsOpenDay, IsTodayPage, head_text, last_n
 use crate::captions::{CAPTIONS, Captions};
 use crate::contents::sum_of;
 use crate::foot::{Origin, origin_of, write_foot};
-use cns_exceptions::{Counted, Days, Input, Played, Span, Survey, counts_of, days_of, play_first, spans_of};
+use cns_exceptions::{
+    Counted, Days, Input, Played, Span, Survey, counts_of, days_of, play_first, spans_of,
+};
 use cns_history::Watched;
 use cns_shell::Fault;
 use cns_tables::{Piece, START, page_style, write_form, write_table};
