@@ -11,7 +11,7 @@ import hashlib
 import html
 import re
 
-from figures import CAUSES, FOOT, MOST_EXCEPTIONS, ROW, SECTION, Day, Trades, count, dollars, moved, of_table, reason
+from figures import CAUSES, FOOT, ROW, SECTION, Day, Trades, count, dollars, is_question, moved, of_table, ranked, reason
 from recompute import CORPORATION, Book, command_of, ended_records, towards_zero
 
 # ---- what a page shows --------------------------------------------------------------------------------------------
@@ -270,8 +270,9 @@ class Days:
 
     def refused(self, start, end):
         """Those of the first exceptions between two records that are commands: number, reason, kind and values."""
-        found = [it for it in range(start, end) if self.reasons[it] is not None][:MOST_EXCEPTIONS]
-        return [(it + 1, self.reasons[it], *command_of(self.records[it][0])) for it in found if self.reasons[it]]
+        found = [it for it in range(start, end) if self.reasons[it] is not None]
+        found = ranked([(it, self.reasons[it], is_question(self.records[it][0], self.reasons[it])) for it in found])
+        return [(it + 1, why, *command_of(self.records[it][0])) for it, why, _ in found if why]
 
 
 def is_accepted(line):

@@ -220,12 +220,22 @@ def reason(reply):
     return {"line": 0, "refused": kind == "refused" and int(rest.split(" ")[0])}.get(kind)
 
 
+def is_question(record, why):
+    """Whether a record that is an exception is a question."""
+    return bool(why) and record[0] in (b"POSITION", b"STATEMENT")
+
+
+def ranked(found):
+    """The first exceptions, refused questions behind the others."""
+    return sorted(found, key=lambda it: it[2])[:MOST_EXCEPTIONS]
+
+
 def exceptions(found, others):
     """The first exceptions of a day, with the records that used their references or put them right, and how many there are of each
     kind."""
-    for number, why in found[:MOST_EXCEPTIONS]:
+    for number, why, _ in ranked(found):
         yield ["exceptions", number, f"Refused {why}" if why else KINDS[0], *others.get(number, [])]
-    for why, times in sorted(collections.Counter(why for _, why in found).items()):
+    for why, times in sorted(collections.Counter(why for _, why, _ in found).items()):
         yield ["reasons", f"Refused {why}, {KINDS[why]}" if why else KINDS[0], count(times)]
 
 
@@ -260,7 +270,7 @@ class Input:
             self.trades.add(self.last, record, reply)
             why = reason(reply)
             if why is not None:
-                self.found.append((self.last, why))
+                self.found.append((self.last, why, is_question(record, why)))
             if reply.startswith("closed "):
                 day = Day(self.book)
                 self.days.append((day, list(day.tables())))

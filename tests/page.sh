@@ -112,6 +112,11 @@ pages=$((pages + 3))
 { for number in $(seq 250); do echo "PRICE,$number"; done; echo CLOSE,2024-06-04; } | "$program" --open 2024-06-03 > "$room/page" || fail "250 exceptions: status $?"
 [ "$(grep -c '<code>PRICE,' "$room/page")" = 200 ] && grep -q '<th scope=row>Invalid record<td>250' "$room/page" || fail '250 exceptions'
 
+# Refused questions stand behind all others: of 250 and a refused trade behind them the trade stands first, and 199 questions.
+{ for _ in $(seq 250); do echo POSITION,1,037833100; done; echo TRADE,1,101,202,037833100,5,0,2024-06-03; echo CLOSE,2024-06-04; } \
+    | "$program" --open 2024-06-03 > "$room/page" || fail "250 questions: status $?"
+[ "$(grep -c '<code>POSITION,' "$room/page")" = 199 ] && grep -m 1 '<td><code>' "$room/page" | grep -q '<code>TRADE,1,' || fail '250 questions'
+
 # Of a field of more than 200 bytes the first ones stand there, and its length; a comma between quotes ends no field.
 { printf 'MEMBER,%0300d,"%0150d,%0150d",1\nCLOSE,2024-06-04\n' 0 0 0; } | "$program" --open 2024-06-03 > "$room/page" || fail "long fields: status $?"
 grep -qF "<code>MEMBER,$(printf '%0200d' 0)… (300 bytes),&quot;$(printf '%0150d,%048d' 0 0)… (303 bytes),1</code>" "$room/page" || fail 'long fields'

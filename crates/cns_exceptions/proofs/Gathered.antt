@@ -1,7 +1,8 @@
 -- Lists that are gathered item by item.
--- For `counts_of` of counts.rt; `note` of survey.rt.
-use Rattle.cns_exceptions.proofs.Common.{◌≡◌, ◌∙◌, ap, List, [], ◌∷◌, map, ℕ, ◌+◌, ◌++◌, add-one, append-nil, ne_eqb, map-append, count_at, count_shown, counted, arith, length, refl, length-map, with_items_is, known, put_right, put_right_by, told, Survey, Outcome, counts_below}
+-- For `counts_of` of counts.rt; `note` and `rank` of survey.rt.
+use Rattle.cns_exceptions.proofs.Common.{◌≡◌, ◌∙◌, ◌-◌, ap, sym, take, List, [], ◌∷◌, map, ℕ, ◌+◌, ◌++◌, add-one, append-nil, ne_eqb, map-append, count_at, count_shown, counted, arith, length, refl, length-map, with_items_is, known, put_right, put_right_by, told, Survey, Outcome, counts_below}
 use Rattle.cns_exceptions.specs.declared.counts.Counted.{Counted}
+use Rattle.std.proofs.lemmas.List.{take-map}
 use Rattle.std.specs.Vec.{with_items}
 use Rattle.cns_exceptions.specs.declared.finding.Finding.{Finding}
 
@@ -30,3 +31,9 @@ all_right n r (f ∷ fs) = ap (λ e. e ∷ map told (map (put_right n r) fs)) (t
 pub findings_righted : (s : Survey) (r : ℕ) (fs : List Finding) → length s.findings.items ≡ s.findings.len → fs ≡ map (put_right s.records r) s.findings.items
     → known (record s { findings = with_items s.findings fs }) ≡ record (known s) { first = map (put_right_by s.records r) (map told s.findings.items) }
 findings_righted s r fs long is = grind (arith, with_items_is, length, length-map, put_right, known, map, told, all_right)
+
+-- questions behind others
+pub questions_last : (fs qs : List Finding) (n : ℕ) → n ≡ 200 - length fs → map told (fs ++ take n qs) ≡ map told fs ++ take (200 - length (map told fs)) (map told qs)
+questions_last fs qs n is =
+    map-append told fs (take n qs)
+    ∙ ap (λ e. map told fs ++ e) (sym (take-map told n qs) ∙ ap (λ k. take k (map told qs)) (is ∙ ap (λ k. 200 - k) (sym (length-map fs told))))

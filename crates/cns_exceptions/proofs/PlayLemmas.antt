@@ -14,8 +14,8 @@ unfolding noted_all state_after
 noted_all-append k S [] b = refl
 noted_all-append k S (l ∷ a) b = noted_all-append (noted k S l) (state_after_line S l) a b
 
-wanted_records : (k : Known) (w : Outcome) (r : Option ℕ) → (wanted k w r).records ≡ k.records
-wanted_records k w r = grind arith
+wanted_records : (k : Known) (w : Outcome) (c : Option Command) → (wanted k w c).records ≡ k.records
+wanted_records k w c = grind arith
 
 righted_records : (k : Known) (r : Option ℕ) → (righted k r).records ≡ k.records
 righted_records k r = grind arith

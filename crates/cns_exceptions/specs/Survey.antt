@@ -1,6 +1,6 @@
 -- What is known of the records of an input: which of them are exceptions.
-use Rattle.std.specs.Prelude.{◌≡◌, ℕ, ◌+◌, ◌-◌, ◌^◌, ◌==◌, ◌&&◌, ◌||◌, Bool, false, is_none, List, [], ◌∷◌, ◌++◌, if◌then◌else◌, length, map, min, nat_lt, true, Option, Some, None, Ok, Err}
-use Rattle.cns_exceptions.specs.Common.{option_map_or, Account, Day, State, answer, Command, Reply, Log, state_of, Line, state_after_line, blank_log, log_after, log_after_line, history, HistoryLine, Watched, Finding, Outcome, Played, Survey, Activity}
+use Rattle.std.specs.Prelude.{◌≡◌, ℕ, ◌+◌, ◌-◌, ◌^◌, ◌==◌, ◌&&◌, ◌||◌, Bool, false, is_none, List, [], ◌∷◌, ◌++◌, if◌then◌else◌, not, option_and_then, length, map, min, nat_lt, take, true, Option, Some, None, Ok, Err}
+use Rattle.cns_exceptions.specs.Common.{option_map_or, Account, Day, State, answer, opened, Command, Reply, Log, state_of, Line, state_after_line, blank_log, log_after, log_after_line, history, HistoryLine, Watched, Finding, Outcome, Played, Survey, Activity}
 use Rattle.cns_feed.specs.Records.{IsReady, Pending}
 use Rattle.cns_feed.specs.declared.records.Records.{Records}
 use Rattle.cns_history.specs.Lines.{lines_of}
@@ -14,18 +14,20 @@ pub record Exception : Type 0 where
   pub put_right : Option ℕ
 
 -- what is known of records: how many there are, how many of them are exceptions, and the numbers of the invalid ones; and of those
--- that are looked at, which come after so many others, the exceptions' reasons, and the first 200 of these
+-- that are looked at, which come after so many others, the exceptions' reasons, and the first 200 of these that are no questions, and the
+-- first 200 that are
 pub record Known : Type 0 where
   pub from : ℕ
   pub records : ℕ
   pub exceptions : ℕ
   pub reasons : List Outcome
   pub first : List Exception
+  pub questions : List Exception
   pub invalid : List ℕ
 
 -- of no records
 abbrev pub nothing : ℕ → Known
-nothing from = record { from = from; records = 0; exceptions = 0; reasons = []; first = []; invalid = [] }
+nothing from = record { from = from; records = 0; exceptions = 0; reasons = []; first = []; questions = []; invalid = [] }
 
 -- one record more
 abbrev pub counted : Known → Known
@@ -35,19 +37,32 @@ counted k = record k { records = k.records + 1 }
 abbrev pub one_invalid : Known → Known
 one_invalid k = record k { invalid = k.invalid ++ k.records ∷ [] }
 
--- an exception more, of a command with the reference, if it is a trade; where it is looked at its reason too, and where it is one of
--- the first 200 what is told of it
-abbrev pub wanted : Known → Outcome → Option ℕ → Known
-wanted k w r =
-    let more = record k { exceptions = min (k.exceptions + 1) (2 ^ 64 - 1) } in
-    let told : Exception = record { number = k.records; why = w; reference = r; put_right = None } in
-    if nat_lt k.from k.records then record more { reasons = k.reasons ++ w ∷ []; first = if nat_lt (length k.first) 200 then k.first ++ told ∷ [] else k.first }
-    else more
-
 -- the reference of a trade
 abbrev pub reference_of : Command → Option ℕ
 reference_of (Command.Activity (Activity.Trade t)) = Some t.reference
 reference_of _ = None
+
+-- whether a command is a question
+abbrev pub is_question : Command → Bool
+is_question (Command.Activity x) = false
+is_question _ = true
+
+-- one more, where it is one of the first 200
+abbrev pub with_first : List Exception → Exception → List Exception
+with_first es e = if nat_lt (length es) 200 then es ++ e ∷ [] else es
+
+-- an exception more, of a command, if it was one; where it is looked at its reason too, and what is told of it
+abbrev pub wanted : Known → Outcome → Option Command → Known
+wanted k w cmd =
+    let more = record k { exceptions = min (k.exceptions + 1) (2 ^ 64 - 1); reasons = k.reasons ++ w ∷ [] } in
+    let told : Exception = record { number = k.records; why = w; reference = option_and_then reference_of cmd; put_right = None } in
+    if not (nat_lt k.from k.records) then record k { exceptions = min (k.exceptions + 1) (2 ^ 64 - 1) }
+    else if option_map_or is_question cmd false then record more { questions = with_first k.questions told }
+    else record more { first = with_first k.first told }
+
+-- the questions behind the others, so that there are 200 at most
+abbrev pub ranked : Known → Known
+ranked k = record k { first = k.first ++ take (200 - length k.first) k.questions; questions = [] }
 
 -- whether a reference is the one
 abbrev pub is_reference : ℕ → Option ℕ → Bool
@@ -64,7 +79,7 @@ righted k (Some r) = record k { first = map (put_right_by k.records r) k.first }
 
 -- what the reply to its command tells
 abbrev pub replied : Known → Command → Reply → Known
-replied k cmd (Reply.Refused r) = wanted k (Outcome.Refused r) (reference_of cmd)
+replied k cmd (Reply.Refused r) = wanted k (Outcome.Refused r) (Some cmd)
 replied k cmd Reply.Accepted = righted k (reference_of cmd)
 replied k cmd _ = k
 
@@ -102,6 +117,7 @@ known s = record {
   exceptions = s.exceptions;
   reasons = s.reasons.items;
   first = map told s.findings.items;
+  questions = map told s.questions.items;
   invalid = s.invalid.items;
 }
 
@@ -129,5 +145,7 @@ pub record Came (w : Watched) (first now : Log) (from : Known) (s : Survey) (tol
   pub tells : told ≡ history w 0 (state_of first) lines
 
 -- what was played of lines on a book that opens on a date, those after the first so many looked at, with something that was watched
-abbrev pub ComesTo : Day → ℕ → Watched → List Line → Played → Type 0
-ComesTo opening from w lines p = Came w (blank_log opening) p.book.log (nothing from) p.survey p.lines.items lines
+pub record ComesTo (opening : Day) (from : ℕ) (w : Watched) (lines : List Line) (p : Played) : Type 0 where
+  pub log : p.book.log ≡ log_after (blank_log opening) lines
+  pub knows : known p.survey ≡ ranked (noted_all (nothing from) (opened opening) lines)
+  pub tells : p.lines.items ≡ history w 0 (opened opening) lines

@@ -8,7 +8,7 @@ use cns_terms::NoMemory;
 use std::alloc::Global;
 use std::collections::VecDeque;
 use std::io;
-use std::io::{ErrorKind, Read};
+use std::io::Read;
 use std::marker::Model;
 use std::rc::Rc;
 
@@ -93,13 +93,6 @@ fn keep(alloc: Global, blocks: &mut VecDeque<Rc<Vec<u8>>>, block: Vec<u8>) -> Re
     Ok(())
 }
 
-fn fault_of(error: &io::Error) -> ReplayFault {
-    match error.kind() {
-        ErrorKind::OutOfMemory => ReplayFault::NoMemory,
-        _ => ReplayFault::Read,
-    }
-}
-
 // The next bytes of a reader: about a block of them, or all that are left. None where it has no more.
 fn read_block<I: Read>(alloc: Global, reader: &mut I) -> Result<Vec<u8>, ReplayFault>
     ensures bytes { IfOk result (λ b. Consumes (I.remaining reader.old) (I.remaining reader.new) b.items) }
@@ -113,9 +106,8 @@ fn read_block<I: Read>(alloc: Global, reader: &mut I) -> Result<Vec<u8>, ReplayF
         if block.len() > BLOCK - 8192 {
             return Ok(block);
         }
-        let count = match read_some(reader, &mut buf) {
-            Ok(count) => count,
-            Err(error) => return Err(fault_of(&error)),
+        let Ok(count) = read_some(reader, &mut buf) else {
+            return Err(ReplayFault::Read);
         };
         if count == 0 {
             return Ok(block);

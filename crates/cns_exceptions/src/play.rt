@@ -152,6 +152,7 @@ pub fn play_first(
         &mut survey,
         &mut lines,
     )?;
+    survey.rank()?;
     Ok(Played {
         survey,
         lines,

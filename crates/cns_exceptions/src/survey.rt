@@ -1,9 +1,9 @@
 // What the records of an input come to, one after another.
-ghost use Rattle.std.specs.Prelude.{◌≡◌, ◌<◌, ◌+◌, ◌-◌, ◌^◌, None, OnOk, length, map, min, nat_lt};
-ghost use Rattle.cns_exceptions.specs.Survey.{counted, known, nothing, one_invalid, put_right, reference_of, replied, righted, wanted};
+ghost use Rattle.std.specs.Prelude.{◌≡◌, ◌<◌, ◌+◌, ◌-◌, ◌^◌, if◌then◌else◌, None, OnOk, Some, length, map, min, nat_lt, option_map};
+ghost use Rattle.cns_exceptions.specs.Survey.{counted, is_question, known, nothing, one_invalid, put_right, ranked, reference_of, replied, righted, wanted};
 
 use crate::facts::{facts_of, names_of};
-use crate::finding::{Facts, Finding, NO_FACTS, NOTHING, Named, Outcome};
+use crate::finding::{Facts, Finding, NO_FACTS, NOTHING, Outcome};
 use crate::given::given;
 use crate::words::{fault_words, refusal_words};
 use cns_feed::{LineFault, ReplayBook};
@@ -24,8 +24,10 @@ pub struct Survey {
     pub exceptions: u64,
     /// Why those that are looked at are exceptions that are, in order.
     pub reasons: Vec<Outcome>,
-    /// The first of them, 200 at most.
+    /// The first of them, 200 at most; refused questions stand last.
     pub findings: Vec<Finding>,
+    /// The first refused questions, 200 at most, until all records were noted.
+    pub questions: Vec<Finding>,
     /// The numbers of the invalid records, in order.
     pub invalid: Vec<u64>,
 }
@@ -41,6 +43,7 @@ impl Survey {
             exceptions: 0,
             reasons: Vec::new(alloc),
             findings: Vec::new(alloc),
+            questions: Vec::new(alloc),
             invalid: Vec::new(alloc),
         }
     }
@@ -121,16 +124,15 @@ impl Survey {
         command: &Command,
         refusal: Refusal,
     ) -> Result<(), NoMemory>
-        ensures { OnOk result (known self.new ≡ wanted (known self.old) (Outcome.Refused refusal) (reference_of command.now)) }
+        ensures { OnOk result (known self.new ≡ wanted (known self.old) (Outcome.Refused refusal) (Some command.now)) }
     {
-        let facts = if self.is_looking() && self.findings.len() < MOST {
+        let facts = if self.is_looking() && self.has_room(is_question(command)) {
             facts_of(book, self.invalid.as_slice(), command, refusal)
         } else {
             NO_FACTS
         };
         let words = refusal_words(refusal, command);
-        let named = names_of(command);
-        self.note_exception(text, Outcome::Refused(refusal), words, facts, named)
+        self.note_exception(text, Outcome::Refused(refusal), words, facts, Some(command))
     }
 
     /// Notes that a record with the text is invalid.
@@ -139,39 +141,74 @@ impl Survey {
     {
         self.invalid.push(self.records)?;
         let words = fault_words(fault);
-        self.note_exception(text, Outcome::AtFault(fault), words, NO_FACTS, NOTHING)
+        self.note_exception(text, Outcome::AtFault(fault), words, NO_FACTS, None)
     }
 
-    // Notes why a record with the text is an exception, and what decided it.
+    // Whether one more of the exceptions that are questions, or of the others, is one of the first.
+    fn has_room(&self, is_question: bool) -> bool
+        ensures { result ≡ nat_lt (length (if is_question then self.now.questions.items else self.now.findings.items)) 200 }
+    {
+        let others = if is_question {
+            &self.questions
+        } else {
+            &self.findings
+        };
+        others.len() < MOST
+    }
+
+    // Notes why a record with the text is an exception, and what decided it, of a command if it was one.
     fn note_exception(
         &mut self,
         text: &[u8],
         outcome: Outcome,
         words: &'static str,
         facts: Facts,
-        named: Named,
+        command: Option<&Command>,
     ) -> Result<(), NoMemory>
-        ensures { OnOk result (known self.new ≡ wanted (known self.old) outcome named.reference) }
+        ensures { OnOk result (known self.new ≡ wanted (known self.old) outcome (option_map (λ c. c.now) command.entry)) }
     {
         self.exceptions = self.exceptions.saturating_add(1);
         if !self.is_looking() {
             return Ok(());
         }
         self.reasons.push(outcome)?;
-        if self.findings.len() < MOST {
-            let text = given(*self.findings.allocator(), text)?;
-            self.findings.push(Finding {
-                record: self.records,
-                text,
-                outcome,
-                words,
-                facts,
-                named,
-                put_right: None,
-            })?;
+        let is_question = command.is_some_and(is_question);
+        if !self.has_room(is_question) {
+            return Ok(());
+        }
+        let finding = Finding {
+            record: self.records,
+            text: given(*self.findings.allocator(), text)?,
+            outcome,
+            words,
+            facts,
+            named: command.map_or(NOTHING, names_of),
+            put_right: None,
+        };
+        if is_question {
+            self.questions.push(finding)?;
+        } else {
+            self.findings.push(finding)?;
         }
         Ok(())
     }
+
+    /// Puts the refused questions behind the other exceptions, so that there are 200 at most.
+    pub(crate) fn rank(&mut self) -> Result<(), NoMemory>
+        ensures { OnOk result (known self.new ≡ ranked (known self.old)) }
+    {
+        self.questions
+            .truncate(MOST.saturating_sub(self.findings.len()));
+        self.findings.append(&mut self.questions)?;
+        Ok(())
+    }
+}
+
+// Whether a command asks and changes nothing.
+fn is_question(command: &Command) -> bool
+    ensures { result ≡ is_question command.now }
+{
+    !matches!(command, Command::Activity(_))
 }
 
 // Notes of each exception with the reference that the trade of a record with the number was accepted.

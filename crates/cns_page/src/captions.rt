@@ -83,8 +83,8 @@ pub(crate) const CAPTIONS: Captions = Captions {
     exceptions: Table {
         id: "exceptions",
         title: "Exceptions",
-        caption: "Records of the day that are invalid or refused, as they were given, with the facts that decided. Where there are more \
-than 200 the first 200 stand here",
+        caption: "Records of the day that are invalid or refused, as they were given, with the facts that decided; refused questions \
+stand last. Where there are more than 200 the first 200 stand here",
         none: "None: each record of the day was a command, and none was refused.",
         columns: &["Record", "As given", "Why", "Facts"],
     },
