@@ -194,7 +194,7 @@ rows() {
 
 # The page of an account on Tuesday: what moved its positions, what its marks come from, what is due on Wednesday, and the records.
 "$program" --open 2024-06-03 --day 2024-06-04 --account 202 < examples/week.csv > "$room/page" || fail "account 202: status $?"
-grep -qxF '<title>Account 202 on 2024-06-04</title>' "$room/page" && grep -qxF '<h1>Account 202 on 2024-06-04</h1>' "$room/page" || fail 'account 202: title'
+grep -qxF '<title>Account 202 on 2024-06-04</title>' "$room/page" && grep -qxF '<h1>Account 202 on <span style="white-space: nowrap">2024-06-04</span></h1>' "$room/page" || fail 'account 202: title'
 grep -qxF '<p>Day 2, as its close left it. Market value of the positions (dollars): long 0.00, short -9,717.50, net -9,717.50. Mark 75,518.20, dividends 0.00. The next day is 2024-06-05.</p>' "$room/page" || fail 'account 202: head'
 rows | sed '/^exceptions$/,$d' | cmp -s - <(cat <<'LINES'
 positions

@@ -81,7 +81,7 @@ const TABLES: OwnCaptions = OwnCaptions {
 const HEAD: &str = "_Account _ on _</title>
 _<a class=skip href=#main>Skip to the account</a>
 <header>
-<h1>Account _ on _</h1>
+<h1>Account _ on <span style=\"white-space: nowrap\">_</span></h1>
 <p>Day _, as its close left it. Market value of the positions (dollars): long _, short _, net _. Mark _, dividends _. The next day \
 is _.</p>
 ";
