@@ -17,7 +17,7 @@ from recompute import CORPORATION, Book, command_of, ended_records, towards_zero
 # ---- what a page shows --------------------------------------------------------------------------------------------
 
 HEAD = re.compile(
-    r"<title>(Account \d+ on \S+)</title>.*<h1>\1</h1>\s*<p>Day (\d+), as its close left it\."
+    r"<title>(?P<name>Account \d+ on )(?P<date>\S+)</title>.*<h1>(?P=name)<span[^>]*>(?P=date)</span></h1>\s*<p>Day (\d+), as its close left it\."
     r" Market value of the positions \(dollars\): long (\S+), short (\S+), net (\S+)\."
     r" Mark (\S+), dividends (\S+)\. The next day is (\S+)\.</p>",
     re.DOTALL,
@@ -28,7 +28,8 @@ AGAIN = re.compile(r"<code>(cnspage [^<]*)</code>")
 def shown(page):
     """The figures that a page shows, and the names of its tables."""
     page = page.decode()
-    lines = [" ".join(["head", *HEAD.search(page).groups()])]
+    name, *figures = HEAD.search(page).groups()
+    lines = [f"head {name}" + " ".join(figures)]
     for name, text in SECTION.findall(page):
         lines += [f"table {name}", *(" ".join([name, *of_table(name, row)]) for row in ROW.findall(text))]
     return [*lines, html.unescape(AGAIN.search(page)[1]), " ".join(["foot", *FOOT.search(page).groups()])]
