@@ -11,7 +11,7 @@ import hashlib
 import html
 import re
 
-from figures import CAUSES, FOOT, ROW, SECTION, Day, Trades, count, dollars, is_question, moved, of_table, ranked, reason
+from figures import AGAIN, CAUSES, FOOT, ROW, SECTION, Day, Trades, count, dollars, is_question, moved, of_table, ranked, reason
 from recompute import CORPORATION, Book, command_of, ended_records, towards_zero
 
 # ---- what a page shows --------------------------------------------------------------------------------------------
@@ -22,7 +22,6 @@ HEAD = re.compile(
     r" Mark (\S+), dividends (\S+)\. The next day is (\S+)\.</p>",
     re.DOTALL,
 )
-AGAIN = re.compile(r"<code>(cnspage [^<]*)</code>")
 
 
 def shown(page):
@@ -227,7 +226,7 @@ class Own:
         tables = [(name, list(getattr(self, name)())) for name in TABLES]
         shown = [line for name, rows in tables for line in [["table", name], *([name, *row] for row in rows)]]
         options = ["--open", self.book.opening, "--day", self.day.date, "--account", self.account]
-        again = ["cnspage", *options, "< records > day.html"]
+        again = ["cnspage", *options, "< records > page.html"]
         foot = ["foot", len(first), hashlib.sha256(first).hexdigest(), sum(len(rows) for _, rows in tables)]
         return [" ".join(map(str, it)) for it in (["head", *self.head()], *shown, again, foot)]
 

@@ -9,7 +9,7 @@ import hashlib
 import html
 import re
 
-from recompute import CORPORATION, Book, ended_records, records
+from recompute import CORPORATION, Book, ended_records
 
 # ---- what a page shows --------------------------------------------------------------------------------------------
 
@@ -28,6 +28,8 @@ FOOT = re.compile(
     r"of the first (\d+) bytes of the records, whose SHA-256 is <code>(\w+)</code>\.</p>\s*"
     r"<p>End of the page\. Its tables have so many rows: (\d+)</p>\s*</footer>\s*</html>\s*$"
 )
+# The line that makes a page again.
+AGAIN = re.compile(r"<code>(cnspage [^<]*)</code>")
 SECTION = re.compile(r"<section aria-labelledby=(\w+)>(.*?)</section>", re.DOTALL)
 # A text of a record may have line ends, but no angle brackets of its own.
 ROW = re.compile(r"<tr[^>]*><th scope=row[^>]*>(.*?)(?=\n<tr|\n</t)", re.DOTALL)
@@ -61,7 +63,8 @@ def past_shown(page):
     """The figures that a history shows."""
     page = page.decode()
     rows = [cells(row) for row in ROW.findall(page)]
-    return [" ".join(PAST.search(page).groups())] + [" ".join(row[:2] + row[3:]) for row in rows]
+    lines = [" ".join(PAST.search(page).groups())] + [" ".join(row[:2] + row[3:]) for row in rows]
+    return lines + [html.unescape(AGAIN.search(page)[1]), "foot " + " ".join(FOOT.search(page).groups())]
 
 
 # ---- what it has to show ------------------------------------------------------------------------------------------
@@ -305,8 +308,8 @@ def days_of(text, opening):
 
 def past_of(text, opening, account, issue, day=None):
     """The figures of the history of an account's position in an issue, up to the close of a day or to the last record."""
-    book, rows, last, stood = Book(opening), [], 0, (0, 0)
-    for last, record in enumerate(records(text), 1):
+    book, rows, last, stood, size = Book(opening), [], 0, (0, 0), len(text)
+    for last, (record, end) in enumerate(ended_records(text), 1):
         reply = book.reply(record)[0]
         now = book.position(account, issue), book.cents(account, issue, book.today())
         closed = book.today() - 1 if reply.startswith("closed ") else 0
@@ -322,7 +325,10 @@ def past_of(text, opening, account, issue, day=None):
             rows.append([last, book.date_today(), *moved, *after, "", "", "", "", ""])
         stood = now
         if closed and book.date_of(closed) == day:
+            size = end
             break
     known = issue in book.issues() and account in [CORPORATION] + book.members()
     head = [account, issue.decode(), opening, last, count(book.position(account, issue)) if known else "none"]
-    return [" ".join(map(str, it)) for it in [head, *rows]]
+    options = ["--open", opening, "--day", day or "today", "--account", account, "--issue", issue.decode()]
+    foot = ["foot", size, hashlib.sha256(text[:size]).hexdigest(), len(rows)]
+    return [" ".join(map(str, it)) for it in [head, *rows, ["cnspage", *options, "< records > page.html"], foot]]

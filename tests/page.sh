@@ -219,7 +219,7 @@ bookings
 69<td>037833100<td>Trade 60401: bought from member 101<td>250<td>-48,587.50<td>-50
 LINES
 ) || fail 'account 202: other rows'
-grep -qF '<code>cnspage --open 2024-06-03 --day 2024-06-04 --account 202 &lt; records &gt; day.html</code>' "$room/page" || fail 'account 202: the line that makes it again'
+grep -qF '<code>cnspage --open 2024-06-03 --day 2024-06-04 --account 202 &lt; records &gt; page.html</code>' "$room/page" || fail 'account 202: the line that makes it again'
 grep -q "of the first 2749 bytes of the records, whose SHA-256 is <code>$(head -n 88 examples/week.csv | sha256sum | cut -d ' ' -f 1)<" "$room/page" || fail 'account 202: another digest'
 rows | sed '1,/^exceptions$/d' | sed 's/<strong>\(Refused [0-9]*\)<.*/\1/' | cmp -s - <(cat <<'LINES'
 68<td><code>DELIVER,202,023135106,100</code><td>Refused 10

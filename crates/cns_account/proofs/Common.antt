@@ -35,7 +35,7 @@ pub use Rattle.cns_account.specs.Moves.{AreMoves, is_within, moved_at, of_cause,
 pub use Rattle.cns_account.specs.Past.{IsGathered, accepted_of, date_told, looked_at}
 unfoldable pub use Rattle.cns_account.specs.Rows.{moved, valued}
 pub use Rattle.cns_account.specs.Common.{Activity, Booking, Command, Key, Row, HistoryLine, Moved, Moves, Taken}
-pub use Rattle.cns_history.specs.declared.watched.Watched.{Watched}
-pub use Rattle.cns_history.specs.declared.watched.Whose.{Whose}
+pub use Rattle.cns_history.specs.declared.play.Watched.{Watched}
+pub use Rattle.cns_history.specs.declared.play.Whose.{Whose}
 pub use Rattle.cns_terms.specs.Entries.{buyer_entry, seller_entry, split_entry}
 pub use Rattle.std.proofs.lemmas.Grind.{common_steps}

@@ -5,7 +5,7 @@ use Rattle.std.proofs.lemmas.List.Concat.{flat_map_single}
 use Rattle.cns_terms.proofs.Elsewhere.{idle_at}
 use Rattle.cns_terms.specs.Refusals.{rules}
 use Rattle.cns_terms.specs.declared.command.Movement.{Movement}
-use Rattle.cns_history.specs.declared.watched.Whose.TheVariants.{All}
+use Rattle.cns_history.specs.declared.play.Whose.TheVariants.{All}
 
 abbrev pub is_at : Key → Key → Bool
 is_at k q = is_eq (key_cmp q k)

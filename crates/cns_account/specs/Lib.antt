@@ -3,6 +3,5 @@ pub mod Rows
 pub mod Past
 pub mod Fails
 pub mod Dividends
-pub mod Day
 pub mod Laws
 pub mod Common

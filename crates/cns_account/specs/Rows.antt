@@ -10,7 +10,7 @@ use Rattle.cns_account.specs.declared.booked.TheConstants.{BEGIN, FIGURES}
 use Rattle.cns_account.specs.declared.mark.MarkRow.{MarkRow}
 use Rattle.cns_account.specs.declared.mark.Causes.{Causes}
 use Rattle.cns_account.specs.declared.row.AccountRow.{AccountRow}
-use Rattle.cns_account.specs.declared.totals.Totals.{Totals}
+use Rattle.cns_account.specs.declared.row.Totals.{Totals}
 
 -- ---- the rows
 

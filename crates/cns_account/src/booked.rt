@@ -5,9 +5,7 @@ ghost use Rattle.cns_account.specs.Rows.{booking_in};
 use cns_history::{Booking, HistoryLine, write_what};
 use cns_tables::{Piece, TableRow, write_form};
 use cns_terms::NoMemory;
-use cns_units::WriteFault;
-use std::alloc::Global;
-use std::io::Write;
+use std::alloc::{AllocError, Global};
 
 // A row: the number and the issue before what it was, and after it shares, cents and position.
 const BEGIN: &str = "<tr><th scope=row>_<td>_<td>";
@@ -31,7 +29,7 @@ fn booking_in(line: &HistoryLine) -> Option<Booked>
 }
 
 /// The bookings among lines, in order.
-pub(crate) fn bookings_in(alloc: Global, lines: &[HistoryLine]) -> Result<Vec<Booked>, NoMemory>
+pub fn bookings_in(alloc: Global, lines: &[HistoryLine]) -> Result<Vec<Booked>, NoMemory>
     ensures { IfOk result (λ v. v.items ≡ filter_map booking_in lines.now) }
 {
     let bookings = lines.iter().filter_map(booking_in).collect(alloc)?;
@@ -44,7 +42,7 @@ impl TableRow for Booked {
     ghost text = { booked_text };
 
     #[tactic(auto, using(cns_tables::proofs::Written::after))]
-    fn write_row<W: Write>(&self, writer: &mut W) -> Result<(), WriteFault> {
+    fn write_row(&self, out: &mut Vec<u8>) -> Result<(), AllocError> {
         let booking = &self.booking;
         let begin = [Piece::Number(booking.number), Piece::Issue(booking.issue)];
         let figures = [
@@ -52,8 +50,8 @@ impl TableRow for Booked {
             Piece::Amount(booking.cents),
             Piece::Signed(booking.position),
         ];
-        write_form(BEGIN, &begin, writer)?;
-        write_what(booking.account, &booking.activity, writer)?;
-        write_form(FIGURES, &figures, writer)
+        write_form(BEGIN, &begin, out)?;
+        write_what(booking.account, &booking.activity, out)?;
+        write_form(FIGURES, &figures, out)
     }
 }

@@ -14,9 +14,8 @@ use cns_feed::ReplayBook;
 use cns_sheets::Sheet;
 use cns_tables::{Piece, ROW, TableRow, write_line};
 use cns_terms::{Declared, Key, NoMemory, Row};
-use cns_units::{Account, Cents, Cusip, Day, WriteFault};
-use std::alloc::Global;
-use std::io::Write;
+use cns_units::{Account, Cents, Cusip, Day};
+use std::alloc::{AllocError, Global};
 
 /// A dividend that a close pays to an account or takes from it.
 #[derive(Clone, Copy)]
@@ -216,7 +215,7 @@ impl TableRow for PaidDividend {
 
     ghost text = { dividend_text };
 
-    fn write_row<W: Write>(&self, writer: &mut W) -> Result<(), WriteFault> {
+    fn write_row(&self, out: &mut Vec<u8>) -> Result<(), AllocError> {
         let declared = &self.declared;
         let cells = [
             Piece::Date(declared.recorded),
@@ -225,6 +224,6 @@ impl TableRow for PaidDividend {
             Piece::Signed(self.position),
             Piece::Amount(self.cents),
         ];
-        write_line(ROW, &Piece::Issue(declared.issue), &cells, writer)
+        write_line(ROW, &Piece::Issue(declared.issue), &cells, out)
     }
 }

@@ -12,9 +12,8 @@ use cns_history::worth;
 use cns_sheets::Sheet;
 use cns_tables::{Piece, ROW, TableRow, cents_of, write_line};
 use cns_terms::{Exchange, Key, NoMemory, Row};
-use cns_units::{Account, Cents, Cusip, Day, WriteFault};
-use std::alloc::Global;
-use std::io::Write;
+use cns_units::{Account, Cents, Cusip, Day};
+use std::alloc::{AllocError, Global};
 
 /// A member's short at a close, with what the price did to it.
 #[derive(Clone, Copy)]
@@ -150,8 +149,8 @@ impl TableRow for Fail {
 
     ghost text = { fail_text };
 
-    fn write_row<W: Write>(&self, writer: &mut W) -> Result<(), WriteFault> {
+    fn write_row(&self, out: &mut Vec<u8>) -> Result<(), AllocError> {
         let cells = fail_cells(self);
-        write_line(ROW, &Piece::Issue(self.row.issue), &cells, writer)
+        write_line(ROW, &Piece::Issue(self.row.issue), &cells, out)
     }
 }

@@ -6,9 +6,8 @@ use crate::moves::{Moved, Moves, wrapped_sum};
 use crate::row::AccountRow;
 use cns_tables::{Piece, ROW, TableRow, cents_of, write_line};
 use cns_terms::{NoMemory, Row};
-use cns_units::{Cents, Price, WriteFault};
-use std::alloc::Global;
-use std::io::Write;
+use cns_units::{Cents, Price};
+use std::alloc::{AllocError, Global};
 
 /// A row of the sheet, as the table of marks has it: what the price did to the opening position, and each movement at the price of
 /// the close, with its money.
@@ -82,7 +81,7 @@ impl Causes {
 }
 
 /// The rows of the table of marks, of an account's rows.
-pub(crate) fn marks_of(alloc: Global, rows: &[AccountRow]) -> Result<Vec<MarkRow>, NoMemory>
+pub fn marks_of(alloc: Global, rows: &[AccountRow]) -> Result<Vec<MarkRow>, NoMemory>
     ensures { IfOk result (λ v. v.items ≡ map mark_row rows.now) }
 {
     let marks = rows
@@ -97,7 +96,7 @@ impl TableRow for MarkRow {
 
     ghost text = { mark_text };
 
-    fn write_row<W: Write>(&self, writer: &mut W) -> Result<(), WriteFault> {
+    fn write_row(&self, out: &mut Vec<u8>) -> Result<(), AllocError> {
         let row = &self.line.row;
         let causes = Causes::of(&self.line.moves, row.price);
         let cells = [
@@ -112,6 +111,6 @@ impl TableRow for MarkRow {
             Piece::Amount(row.mark),
             Piece::Amount(row.money),
         ];
-        write_line(ROW, &Piece::Issue(row.issue), &cells, writer)
+        write_line(ROW, &Piece::Issue(row.issue), &cells, out)
     }
 }

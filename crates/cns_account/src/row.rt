@@ -1,19 +1,18 @@
-// The positions of an account on a day.
+// The positions of an account on a day, and what they are worth.
 ghost use Rattle.std.specs.Prelude.{◌≡◌, IfOk, map};
 ghost use Rattle.cns_terms.specs.Sheets.{rows_for};
 ghost use Rattle.cns_book.specs.Log.{state_of};
-ghost use Rattle.cns_account.specs.Rows.{account_row};
+ghost use Rattle.cns_account.specs.Rows.{account_row, totals_of, with_row};
 
 use crate::day_moves::DayMoves;
-use crate::moves::Moves;
+use crate::moves::{Moves, wrapped_sum};
 use cns_feed::ReplayBook;
 use cns_history::{standing, worth};
 use cns_sheets::Sheet;
 use cns_tables::{Piece, ROW, TableRow, cents_of, write_line};
 use cns_terms::{Key, NoMemory, Row};
-use cns_units::{Account, WriteFault};
-use std::alloc::Global;
-use std::io::Write;
+use cns_units::{Account, Cents};
+use std::alloc::{AllocError, Global};
 
 /// An account's row of a day's sheet, with what moved the position.
 #[derive(Clone, Copy)]
@@ -37,7 +36,7 @@ fn account_row(book: &ReplayBook, moves: &DayMoves, row: &Row) -> AccountRow
 }
 
 /// An account's rows of a day's sheet, with what moved their positions on the day; of the book as the close left it.
-pub(crate) fn rows_of(
+pub fn rows_of(
     alloc: Global,
     book: &ReplayBook,
     sheet: &Sheet<Global>,
@@ -53,12 +52,49 @@ pub(crate) fn rows_of(
     Ok(rows)
 }
 
+/// What the closing positions of an account are worth. Each sum is exact where it fits 128 bits, as it does on each day of a book.
+#[derive(Clone, Copy)]
+pub struct Totals {
+    /// Those above 0, in cents.
+    pub long: Cents,
+    /// Those below 0, in cents: not above 0.
+    pub short: Cents,
+    pub net: Cents,
+}
+
+// With a row more.
+fn with_row(totals: Totals, row: &AccountRow) -> Totals
+    ensures { result ≡ with_row totals row.now }
+{
+    let value = worth(&row.row);
+    let mut totals = totals;
+    totals.net = wrapped_sum(totals.net, value);
+    if row.row.closing < 0 {
+        totals.short = wrapped_sum(totals.short, value);
+    } else {
+        totals.long = wrapped_sum(totals.long, value);
+    }
+    totals
+}
+
+/// What rows of an account add up to.
+pub fn totals_of(rows: &[AccountRow]) -> Totals
+    ensures { result ≡ totals_of rows.now }
+{
+    let none = Totals {
+        long: Cents::ZERO,
+        short: Cents::ZERO,
+        net: Cents::ZERO,
+    };
+    rows.iter().fold(none, with_row)
+}
+
 impl TableRow for AccountRow {
     ghost use Rattle.cns_account.specs.Rows.{position_text};
 
     ghost text = { position_text };
 
-    fn write_row<W: Write>(&self, writer: &mut W) -> Result<(), WriteFault> {
+    fn write_row(&self, out: &mut Vec<u8>) -> Result<(), AllocError> {
         let row = &self.row;
         let cells = [
             Piece::Signed(row.opening),
@@ -74,6 +110,6 @@ impl TableRow for AccountRow {
             Piece::Amount(row.mark),
             Piece::Amount(row.dividend),
         ];
-        write_line(ROW, &Piece::Issue(row.issue), &cells, writer)
+        write_line(ROW, &Piece::Issue(row.issue), &cells, out)
     }
 }

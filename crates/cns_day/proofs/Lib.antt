@@ -1,4 +1,3 @@
-pub mod Waiting
 pub mod Gathered
 pub mod Figured
 pub mod Numbering

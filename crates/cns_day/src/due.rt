@@ -13,10 +13,9 @@ use cns_history::{shares_between, standing};
 use cns_sheets::Sheet;
 use cns_tables::{Piece, ROW, TableRow, write_line};
 use cns_terms::{Entry, Key, NoMemory, Pend};
-use cns_units::{Account, Cusip, WriteFault};
-use std::alloc::Global;
+use cns_units::{Account, Cusip};
+use std::alloc::{AllocError, Global};
 use std::collections::BTreeMap;
-use std::io::Write;
 
 /// What is due of an account in an issue after a close, in shares. Each sum is exact where it fits 64 bits, as it does on each day
 /// of a book.
@@ -163,14 +162,14 @@ impl TableRow for Projected {
 
     ghost text = { projected_text };
 
-    fn write_row<W: Write>(&self, writer: &mut W) -> Result<(), WriteFault> {
+    fn write_row(&self, out: &mut Vec<u8>) -> Result<(), AllocError> {
         let cells = [
             Piece::Signed(self.closing),
             Piece::Signed(self.booked),
             Piece::Signed(self.due),
             Piece::Signed(self.after),
         ];
-        write_line(ROW, &Piece::Issue(self.issue), &cells, writer)
+        write_line(ROW, &Piece::Issue(self.issue), &cells, out)
     }
 }
 
@@ -179,7 +178,7 @@ impl TableRow for DueAt {
 
     ghost text = { due_at_text };
 
-    fn write_row<W: Write>(&self, writer: &mut W) -> Result<(), WriteFault> {
+    fn write_row(&self, out: &mut Vec<u8>) -> Result<(), AllocError> {
         let row = &self.projected;
         let cells = [
             Piece::Number(u64::from(self.account.value())),
@@ -188,6 +187,6 @@ impl TableRow for DueAt {
             Piece::Signed(row.due),
             Piece::Signed(row.after),
         ];
-        write_line(ROW, &Piece::Issue(row.issue), &cells, writer)
+        write_line(ROW, &Piece::Issue(row.issue), &cells, out)
     }
 }

@@ -8,9 +8,8 @@ use cns_feed::ReplayBook;
 use cns_sheets::Sheet;
 use cns_tables::{Piece, ROW, TableRow, write_line};
 use cns_terms::{NoMemory, Row};
-use cns_units::{Account, Cents, Day, WriteFault};
-use std::alloc::Global;
-use std::io::Write;
+use cns_units::{Account, Cents, Day};
+use std::alloc::{AllocError, Global};
 
 /// What the list of days shows of a closed day.
 #[derive(Clone, Copy)]
@@ -93,12 +92,12 @@ impl TableRow for Figures {
 
     ghost text = { figures_text };
 
-    fn write_row<W: Write>(&self, writer: &mut W) -> Result<(), WriteFault> {
+    fn write_row(&self, out: &mut Vec<u8>) -> Result<(), AllocError> {
         let cells = [
             Piece::Number(u64::from(self.day)),
             Piece::Amount(amount_of(self.marks)),
             Piece::Count(self.shorts),
         ];
-        write_line(ROW, &Piece::Date(self.date), &cells, writer)
+        write_line(ROW, &Piece::Date(self.date), &cells, out)
     }
 }

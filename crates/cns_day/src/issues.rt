@@ -10,10 +10,9 @@ use cns_account::{wrapped_shares, wrapped_sum};
 use cns_sheets::Sheet;
 use cns_tables::{Piece, ROW, TableRow, write_line};
 use cns_terms::{NoMemory, Row};
-use cns_units::{Cents, Cusip, WriteFault};
-use std::alloc::Global;
+use cns_units::{Cents, Cusip};
+use std::alloc::{AllocError, Global};
 use std::collections::BTreeMap;
-use std::io::Write;
 
 /// What the rows in an issue add up to. Each sum is exact where it fits 64 bits, and of cents 128, as it does on each sheet of a
 /// book.
@@ -107,7 +106,7 @@ impl TableRow for IssueSums {
 
     ghost text = { sums_text };
 
-    fn write_row<W: Write>(&self, writer: &mut W) -> Result<(), WriteFault> {
+    fn write_row(&self, out: &mut Vec<u8>) -> Result<(), AllocError> {
         let cells = [
             Piece::Signed(self.long),
             Piece::Signed(self.short),
@@ -116,6 +115,6 @@ impl TableRow for IssueSums {
             Piece::Amount(self.mark),
             Piece::Amount(self.dividend),
         ];
-        write_line(ROW, &Piece::Issue(self.issue), &cells, writer)
+        write_line(ROW, &Piece::Issue(self.issue), &cells, out)
     }
 }

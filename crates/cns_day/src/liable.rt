@@ -7,9 +7,8 @@ use cns_feed::ReplayBook;
 use cns_retransmit::Batch;
 use cns_tables::{Piece, ROW, TableRow, write_line};
 use cns_terms::{Liable, NoMemory};
-use cns_units::{Cusip, WriteFault};
-use std::alloc::Global;
-use std::io::Write;
+use cns_units::Cusip;
+use std::alloc::{AllocError, Global};
 
 /// A member that the close of a day made liable in an issue.
 #[derive(Clone, Copy)]
@@ -62,7 +61,7 @@ impl TableRow for Owing {
 
     ghost text = { owing_text };
 
-    fn write_row<W: Write>(&self, writer: &mut W) -> Result<(), WriteFault> {
+    fn write_row(&self, out: &mut Vec<u8>) -> Result<(), AllocError> {
         let cells = [
             Piece::Number(u64::from(self.day)),
             Piece::Number(u64::from(self.liable.member.value())),
@@ -70,6 +69,6 @@ impl TableRow for Owing {
             Piece::Count(self.liable.closing),
             Piece::Count(self.liable.left),
         ];
-        write_line(ROW, &Piece::Issue(self.issue), &cells, writer)
+        write_line(ROW, &Piece::Issue(self.issue), &cells, out)
     }
 }

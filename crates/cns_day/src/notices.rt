@@ -8,9 +8,7 @@ use cns_book::{Notice, Stage};
 use cns_feed::ReplayBook;
 use cns_tables::{Piece, ROW, TableRow, write_line};
 use cns_terms::NoMemory;
-use cns_units::WriteFault;
-use std::alloc::Global;
-use std::io::Write;
+use std::alloc::{AllocError, Global};
 
 /// A notice with its number, from 1.
 #[derive(Clone, Copy)]
@@ -50,7 +48,7 @@ impl TableRow for Numbered {
     ghost text = { notice_row };
 
     // The last day of a notice is the second after its own.
-    fn write_row<W: Write>(&self, writer: &mut W) -> Result<(), WriteFault> {
+    fn write_row(&self, out: &mut Vec<u8>) -> Result<(), AllocError> {
         let notice = &self.notice;
         let given = u64::from(notice.given);
         let cells = [
@@ -61,6 +59,6 @@ impl TableRow for Numbered {
             Piece::Count(notice.remaining),
             Piece::Number(given + 2),
         ];
-        write_line(ROW, &Piece::Issue(notice.issue), &cells, writer)
+        write_line(ROW, &Piece::Issue(notice.issue), &cells, out)
     }
 }

@@ -8,9 +8,8 @@ use cns_feed::ReplayBook;
 use cns_history::entries_of;
 use cns_tables::{Piece, ROW, TableRow, cents_of, write_line};
 use cns_terms::{NoMemory, Trade};
-use cns_units::{Day, WriteFault};
-use std::alloc::Global;
-use std::io::Write;
+use cns_units::Day;
+use std::alloc::{AllocError, Global};
 
 /// A trade, and whether it was booked into the day that the close opened; else it is pending.
 #[derive(Clone, Copy)]
@@ -52,7 +51,7 @@ impl TableRow for Due {
 
     ghost text = { due_text };
 
-    fn write_row<W: Write>(&self, writer: &mut W) -> Result<(), WriteFault> {
+    fn write_row(&self, out: &mut Vec<u8>) -> Result<(), AllocError> {
         let trade = &self.trade;
         let cells = [
             Piece::Number(trade.reference),
@@ -63,6 +62,6 @@ impl TableRow for Due {
             Piece::Amount(cents_of(trade.money.value())),
             Piece::Booked(self.is_booked),
         ];
-        write_line(ROW, &Piece::Date(trade.date), &cells, writer)
+        write_line(ROW, &Piece::Date(trade.date), &cells, out)
     }
 }

@@ -10,10 +10,8 @@ use cns_history::standing;
 use cns_sheets::Sheet;
 use cns_tables::{Piece, ROW, TableRow, write_line};
 use cns_terms::{NoMemory, Row};
-use cns_units::WriteFault;
-use std::alloc::Global;
+use std::alloc::{AllocError, Global};
 use std::cmp::Reverse;
-use std::io::Write;
 
 /// A member's short at a close.
 #[derive(Clone, Copy)]
@@ -58,13 +56,13 @@ impl TableRow for Aged {
 
     ghost text = { short_text };
 
-    fn write_row<W: Write>(&self, writer: &mut W) -> Result<(), WriteFault> {
+    fn write_row(&self, out: &mut Vec<u8>) -> Result<(), AllocError> {
         let cells = [
             Piece::Number(u64::from(self.row.account.value())),
             Piece::Number(u64::from(self.age)),
             Piece::Signed(self.row.opening),
             Piece::Signed(self.row.closing),
         ];
-        write_line(ROW, &Piece::Issue(self.row.issue), &cells, writer)
+        write_line(ROW, &Piece::Issue(self.row.issue), &cells, out)
     }
 }

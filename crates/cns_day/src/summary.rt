@@ -1,6 +1,5 @@
 // The CNS Accounting Summary: the sums over all rows of the sheet, and then each account's rows under the sums of its own.
 ghost use Rattle.std.specs.Prelude.{◌≡◌, ◌++◌, IfOk, OnOk};
-ghost use Rattle.std.specs.Io.KnownBytes.{Appends};
 ghost use Rattle.cns_statements.specs.Packs.{is_next};
 ghost use Rattle.cns_day.specs.Summary.{all_sums, grouped, head_text, none_of, own_sums, sheet_lines, sums_in, sums_of, sums_text, with_row};
 
@@ -8,9 +7,8 @@ use cns_account::{Causes, DayMoves, price_move, wrapped_sum};
 use cns_sheets::Sheet;
 use cns_tables::{Piece, TableRow, cents_of, write_form, write_line, write_markup};
 use cns_terms::{NoMemory, Row, Stated};
-use cns_units::{Account, Cents, WriteFault};
-use std::alloc::Global;
-use std::io::Write;
+use cns_units::{Account, Cents};
+use std::alloc::{AllocError, Global};
 
 /// The amounts of a row, or the sums of those of several. Each sum is exact where it fits 128 bits, as it does on each sheet of a
 /// book.
@@ -156,8 +154,8 @@ pub fn lines_of(
     Ok(lines)
 }
 
-fn write_sums<W: Write>(sums: &Sums, writer: &mut W) -> Result<(), WriteFault>
-    ensures { OnOk result (Appends (W.contents writer.old) (W.contents writer.new) (sums_text sums.now)) }
+fn write_sums(sums: &Sums, out: &mut Vec<u8>) -> Result<(), AllocError>
+    ensures { OnOk result (out.new.items ≡ out.old.items ++ sums_text sums.now) }
 {
     let cells = [
         Piece::Amount(sums.money),
@@ -170,21 +168,21 @@ fn write_sums<W: Write>(sums: &Sums, writer: &mut W) -> Result<(), WriteFault>
         Piece::Amount(sums.mark),
         Piece::Amount(sums.dividend),
     ];
-    write_line("", &Piece::Markup(""), &cells, writer)
+    write_line("", &Piece::Markup(""), &cells, out)
 }
 
 // What stands before the amounts of a line.
-fn write_head<W: Write>(line: &SheetLine, writer: &mut W) -> Result<(), WriteFault>
-    ensures { OnOk result (Appends (W.contents writer.old) (W.contents writer.new) (head_text line.now)) }
+fn write_head(line: &SheetLine, out: &mut Vec<u8>) -> Result<(), AllocError>
+    ensures { OnOk result (out.new.items ≡ out.old.items ++ head_text line.now) }
 {
     match line {
-        SheetLine::All(_) => write_markup(ALL, writer),
+        SheetLine::All(_) => write_markup(ALL, out),
         SheetLine::Account(account, _) => {
             let number = u64::from(account.value());
             write_form(
                 ACCOUNT,
                 &[Piece::Number(number), Piece::Number(number)],
-                writer,
+                out,
             )
         }
         SheetLine::Issue(row, _) => {
@@ -195,7 +193,7 @@ fn write_head<W: Write>(line: &SheetLine, writer: &mut W) -> Result<(), WriteFau
                 Piece::Amount(cents_of(row.opening_price.value())),
                 Piece::Amount(cents_of(row.price.value())),
             ];
-            write_form(ISSUE, &pieces, writer)
+            write_form(ISSUE, &pieces, out)
         }
     }
 }
@@ -217,8 +215,8 @@ impl TableRow for SheetLine {
     ghost text = { line_text };
 
     #[tactic(auto, using(cns_tables::proofs::Written::after))]
-    fn write_row<W: Write>(&self, writer: &mut W) -> Result<(), WriteFault> {
-        write_head(self, writer)?;
-        write_sums(self.sums(), writer)
+    fn write_row(&self, out: &mut Vec<u8>) -> Result<(), AllocError> {
+        write_head(self, out)?;
+        write_sums(self.sums(), out)
     }
 }

@@ -30,6 +30,6 @@ pub use Rattle.cns_exceptions.specs.Sought.{IsFirst, sought_among, waiting_in, w
 unfoldable pub use Rattle.cns_exceptions.specs.Survey.{noted_all}
 pub use Rattle.cns_exceptions.specs.Survey.{Came, Known, Takes, known, noted, put_right, put_right_by, replied, righted, told, wanted}
 pub use Rattle.cns_exceptions.specs.declared.survey.Survey.{Survey}
-pub use Rattle.cns_history.specs.declared.watched.Watched.{Watched}
+pub use Rattle.cns_history.specs.declared.play.Watched.{Watched}
 pub use Rattle.cns_terms.specs.declared.command.Command.{Command}
 pub use Rattle.cns_exceptions.specs.declared.finding.Outcome.{Outcome}

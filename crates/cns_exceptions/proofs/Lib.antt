@@ -2,7 +2,6 @@ mod Blocks
 pub mod DaysLemmas
 pub mod Gathered
 pub mod PlayLemmas
-pub mod LaterLemmas
 pub mod SoughtLemmas
 pub mod Shown
 pub mod Common

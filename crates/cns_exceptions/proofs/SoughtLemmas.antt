@@ -1,6 +1,6 @@
 -- What is looked for in a history, entry by entry.
--- For `first` and `waiting` of sought.rt.
-use Rattle.cns_exceptions.proofs.Common.{◌≡◌, ◌∙◌, sym, ap, ℕ, ◌+◌, ◌-◌, ◌^◌, ◌≤◌, ◌<◌, List, [], ◌∷◌, ◌++◌, Option, Some, None, take, reverse, map, min, arith, ◌==◌, ◌&&◌, if◌then◌else◌, option_to_list, sum_by, map-append, filter-append, filter_map-append, sum_by-append, Account, Cusip, pend_of, Activity, Trade, Taken, entries_end, entry_more, entry_at, looked_at, IsFirst, sought_among, waiting_in, with_trade}
+-- For `first` and `waiting` of sought.rt, and `gather` of projection.rt in cns_day.
+use Rattle.cns_exceptions.proofs.Common.{◌≡◌, ◌∙◌, sym, ap, ℕ, ◌+◌, ◌-◌, ◌^◌, ◌≤◌, ◌<◌, List, [], ◌∷◌, ◌++◌, Option, Some, None, take, reverse, map, min, arith, ◌==◌, ◌&&◌, if◌then◌else◌, option_to_list, sum_by, map-append, filter-append, filter_map-append, sum_by-append, Account, Cusip, Day, pend_of, Activity, Trade, Taken, entries_end, entry_more, entry_at, looked_at, IsFirst, later_among, sought_among, waiting_in, with_trade}
 use Rattle.cns_terms.specs.Sums.{same_issue}
 use Rattle.cns_terms.specs.declared.pend.Pend.{Pend}
 use Rattle.cns_exceptions.specs.declared.sought.Sought.{Sought}
@@ -33,6 +33,10 @@ pub sought_none : (s : Sought) (H : List Taken) (n : ℕ) → n ≡ 2 ^ 32 - 2 �
 sought_none s H n last was = ap (λ k. sought_among s (take k (reverse H))) (sym last) ∙ was
 
 -- ---- what waits
+
+-- the trades that are dated after a day, of some entries and another
+pub later_more : (day : Day) (ts : List Taken) (t : Taken) → later_among day (ts ++ t ∷ []) ≡ later_among day ts ++ later_among day (t ∷ [])
+later_more day ts t = simp (filter_map-append, filter-append)
 
 -- a sum that stops, and one term more
 stops : (n x M : ℕ) → min (min n M + x) M ≡ min (n + x) M

@@ -9,7 +9,7 @@ pub use Rattle.cns_feed.specs.Output.{state_after_line}
 pub use Rattle.cns_feed.specs.Replay.{blank_log, log_after, log_after_line}
 pub use Rattle.cns_history.specs.Lines.{history, is_open}
 pub use Rattle.cns_history.specs.declared.line.HistoryLine.{HistoryLine}
-pub use Rattle.cns_history.specs.declared.watched.Watched.{Watched}
+pub use Rattle.cns_history.specs.declared.play.Watched.{Watched}
 pub use Rattle.cns_tables.specs.Escape.{escaped}
 pub use Rattle.cns_tables.specs.Grouped.{count_text}
 pub use Rattle.cns_tables.specs.Pieces.{filled, piece_text}

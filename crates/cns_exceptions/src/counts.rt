@@ -7,9 +7,7 @@ use crate::survey::Survey;
 use crate::words::KINDS;
 use cns_tables::{Piece, ROW, TableRow, write_line};
 use cns_terms::NoMemory;
-use cns_units::WriteFault;
-use std::alloc::Global;
-use std::io::Write;
+use std::alloc::{AllocError, Global};
 
 /// Records of an input.
 #[derive(Clone, Copy)]
@@ -49,9 +47,9 @@ impl TableRow for Span {
 
     ghost text = { span_text };
 
-    fn write_row<W: Write>(&self, writer: &mut W) -> Result<(), WriteFault> {
+    fn write_row(&self, out: &mut Vec<u8>) -> Result<(), AllocError> {
         let cells = [Piece::Count(self.records), Piece::Count(self.exceptions)];
-        write_line(ROW, &Piece::Markup(self.name), &cells, writer)
+        write_line(ROW, &Piece::Markup(self.name), &cells, out)
     }
 }
 
@@ -108,8 +106,8 @@ impl TableRow for Counted {
 
     ghost text = { counted_text };
 
-    fn write_row<W: Write>(&self, writer: &mut W) -> Result<(), WriteFault> {
+    fn write_row(&self, out: &mut Vec<u8>) -> Result<(), AllocError> {
         let name = Piece::Markup(self.name);
-        write_line(ROW, &name, &[Piece::Count(self.count)], writer)
+        write_line(ROW, &name, &[Piece::Count(self.count)], out)
     }
 }

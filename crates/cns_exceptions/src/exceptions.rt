@@ -1,6 +1,5 @@
 // Exceptions as rows: invalid records and refused commands, with the reasons.
-ghost use Rattle.std.specs.Prelude.{OnOk};
-ghost use Rattle.std.specs.Io.KnownBytes.{Appends};
+ghost use Rattle.std.specs.Prelude.{◌≡◌, ◌++◌, OnOk};
 ghost use Rattle.std.specs.List.{flat_map};
 ghost use Rattle.cns_exceptions.specs.Exceptions.{fact_text, notice_text, put_right_text, reason_text, record_text, seen_text, some_fact_text};
 
@@ -9,8 +8,7 @@ use crate::words::{fault_name, stage_name};
 use cns_book::Notice;
 use cns_tables::{Piece, TableRow, write_form, write_markup};
 use cns_terms::Trade;
-use cns_units::WriteFault;
-use std::io::Write;
+use std::alloc::AllocError;
 
 // A row: the number of the record and what was given, why it is an exception, its facts, and the record that put it right.
 const RECORD: &str = "<tr><th scope=row>_<td><code>_</code><td>";
@@ -40,44 +38,44 @@ const PENDING: &str = ". Trade _, for _, is pending";
 
 const ROOM: &str = ". Shares that they can be given: _";
 
-fn write_fact<W: Write>(fact: &Fact, writer: &mut W) -> Result<(), WriteFault>
-    ensures { OnOk result (Appends (W.contents writer.old) (W.contents writer.new) (some_fact_text fact.now)) }
+fn write_fact(fact: &Fact, out: &mut Vec<u8>) -> Result<(), AllocError>
+    ensures { OnOk result (out.new.items ≡ out.old.items ++ some_fact_text fact.now) }
 {
     match fact {
         Fact::Today(date, day) => {
             let pieces = [Piece::Date(*date), Piece::Number(*day)];
-            write_form(TODAY, &pieces, writer)
+            write_form(TODAY, &pieces, out)
         }
-        Fact::Notice(number, notice) => write_notice(*number, notice, writer),
+        Fact::Notice(number, notice) => write_notice(*number, notice, out),
         Fact::Price(issue, price) => {
             let pieces = [Piece::Issue(*issue), Piece::Price(*price)];
-            write_form(PRICE, &pieces, writer)
+            write_form(PRICE, &pieces, out)
         }
         Fact::Exchanged(exchange) => {
             let pieces = [Piece::Issue(exchange.old), Piece::Issue(exchange.successor)];
-            write_form(EXCHANGED, &pieces, writer)
+            write_form(EXCHANGED, &pieces, out)
         }
         Fact::Position(key, position) => {
             let account = Piece::Number(u64::from(key.account.value()));
             let pieces = [account, Piece::Issue(key.issue), Piece::Position(*position)];
-            write_form(POSITION, &pieces, writer)
+            write_form(POSITION, &pieces, out)
         }
         Fact::Waiting(waiting) => {
             let pieces = [Piece::Count(waiting.bought), Piece::Count(waiting.sold)];
-            write_form(WAITING, &pieces, writer)
+            write_form(WAITING, &pieces, out)
         }
-        Fact::Seen { record, trade } => write_seen(*record, trade, writer),
+        Fact::Seen { record, trade } => write_seen(*record, trade, out),
         Fact::Pending(trade) => {
             let pieces = [Piece::Number(trade.reference), Piece::Date(trade.date)];
-            write_form(PENDING, &pieces, writer)
+            write_form(PENDING, &pieces, out)
         }
-        Fact::Room(room) => write_form(ROOM, &[Piece::Count(*room)], writer),
+        Fact::Room(room) => write_form(ROOM, &[Piece::Count(*room)], out),
     }
 }
 
 // The trade that has a reference.
-fn write_seen<W: Write>(number: u64, trade: &Trade, writer: &mut W) -> Result<(), WriteFault>
-    ensures { OnOk result (Appends (W.contents writer.old) (W.contents writer.new) (seen_text number trade.now)) }
+fn write_seen(number: u64, trade: &Trade, out: &mut Vec<u8>) -> Result<(), AllocError>
+    ensures { OnOk result (out.new.items ≡ out.old.items ++ seen_text number trade.now) }
 {
     let pieces = [
         Piece::Number(trade.reference),
@@ -88,12 +86,12 @@ fn write_seen<W: Write>(number: u64, trade: &Trade, writer: &mut W) -> Result<()
         Piece::Number(u64::from(trade.seller.value())),
         Piece::Date(trade.date),
     ];
-    write_form(SEEN, &pieces, writer)
+    write_form(SEEN, &pieces, out)
 }
 
 // A notice as it stood.
-fn write_notice<W: Write>(number: u32, notice: &Notice, writer: &mut W) -> Result<(), WriteFault>
-    ensures { OnOk result (Appends (W.contents writer.old) (W.contents writer.new) (notice_text number notice.now)) }
+fn write_notice(number: u32, notice: &Notice, out: &mut Vec<u8>) -> Result<(), AllocError>
+    ensures { OnOk result (out.new.items ≡ out.old.items ++ notice_text number notice.now) }
 {
     let pieces = [
         Piece::Number(u64::from(number)),
@@ -104,65 +102,65 @@ fn write_notice<W: Write>(number: u32, notice: &Notice, writer: &mut W) -> Resul
         Piece::Count(notice.remaining),
         Piece::Count(notice.shares.value()),
     ];
-    write_form(NOTICE, &pieces, writer)
+    write_form(NOTICE, &pieces, out)
 }
 
-// Writes the facts that there are, one after another.
-fn write_facts<W: Write>(facts: &[Option<Fact>], writer: &mut W) -> Result<(), WriteFault>
-    ensures { OnOk result (Appends (W.contents writer.old) (W.contents writer.new) (flat_map fact_text facts.now)) }
+// Adds the facts that there are, one after another.
+#[tactic(auto, using(std::proofs::lemmas::Grind::common_steps))]
+fn write_facts(facts: &[Option<Fact>], out: &mut Vec<u8>) -> Result<(), AllocError>
+    ensures { OnOk result (out.new.items ≡ out.old.items ++ flat_map fact_text facts.now) }
 {
     for fact in facts {
-        write_if_any(fact, writer)?;
+        write_if_any(fact, out)?;
     }
     Ok(())
 }
 
-fn write_if_any<W: Write>(fact: &Option<Fact>, writer: &mut W) -> Result<(), WriteFault>
-    ensures { OnOk result (Appends (W.contents writer.old) (W.contents writer.new) (fact_text fact.now)) }
+fn write_if_any(fact: &Option<Fact>, out: &mut Vec<u8>) -> Result<(), AllocError>
+    ensures { OnOk result (out.new.items ≡ out.old.items ++ fact_text fact.now) }
 {
     match fact {
         None => Ok(()),
-        Some(fact) => write_fact(fact, writer),
+        Some(fact) => write_fact(fact, out),
     }
 }
 
 // The record that put an exception right, if one did.
-fn write_put_right<W: Write>(number: Option<u64>, writer: &mut W) -> Result<(), WriteFault>
-    ensures { OnOk result (Appends (W.contents writer.old) (W.contents writer.new) (put_right_text number)) }
+fn write_put_right(number: Option<u64>, out: &mut Vec<u8>) -> Result<(), AllocError>
+    ensures { OnOk result (out.new.items ≡ out.old.items ++ put_right_text number) }
 {
     match number {
         None => Ok(()),
-        Some(number) => write_form(PUT_RIGHT, &[Piece::Number(number)], writer),
+        Some(number) => write_form(PUT_RIGHT, &[Piece::Number(number)], out),
     }
 }
 
 // Why a record is an exception.
-fn write_reason<W: Write>(finding: &Finding, writer: &mut W) -> Result<(), WriteFault>
-    ensures { OnOk result (Appends (W.contents writer.old) (W.contents writer.new)
-        (reason_text finding.now.outcome finding.now.words.now)) }
+fn write_reason(finding: &Finding, out: &mut Vec<u8>) -> Result<(), AllocError>
+    ensures { OnOk result (out.new.items ≡ out.old.items ++ reason_text finding.now.outcome finding.now.words.now) }
 {
     let words = Piece::Markup(finding.words);
     match finding.outcome {
         Outcome::AtFault(fault) => {
             let pieces = [Piece::Markup(fault_name(fault)), words];
-            write_form(INVALID, &pieces, writer)
+            write_form(INVALID, &pieces, out)
         }
         Outcome::Refused(refusal) => {
             let pieces = [Piece::Number(u64::from(refusal.number())), words];
-            write_form(REFUSED, &pieces, writer)
+            write_form(REFUSED, &pieces, out)
         }
     }
 }
 
 // An exception's number and its text as given.
-fn write_record<W: Write>(finding: &Finding, writer: &mut W) -> Result<(), WriteFault>
-    ensures { OnOk result (Appends (W.contents writer.old) (W.contents writer.new) (record_text finding.now)) }
+fn write_record(finding: &Finding, out: &mut Vec<u8>) -> Result<(), AllocError>
+    ensures { OnOk result (out.new.items ≡ out.old.items ++ record_text finding.now) }
 {
     let pieces = [
         Piece::Number(finding.record),
         Piece::Text(finding.text.as_str()),
     ];
-    write_form(RECORD, &pieces, writer)
+    write_form(RECORD, &pieces, out)
 }
 
 impl<'a> TableRow for Cited<'a> {
@@ -170,8 +168,8 @@ impl<'a> TableRow for Cited<'a> {
 
     ghost text = { λ c. finding_text c.finding.now };
 
-    fn write_row<W: Write>(&self, writer: &mut W) -> Result<(), WriteFault> {
-        self.finding.write_row(writer)
+    fn write_row(&self, out: &mut Vec<u8>) -> Result<(), AllocError> {
+        self.finding.write_row(out)
     }
 }
 
@@ -181,11 +179,11 @@ impl TableRow for Finding {
     ghost text = { finding_text };
 
     #[tactic(auto, using(cns_tables::proofs::Written::after))]
-    fn write_row<W: Write>(&self, writer: &mut W) -> Result<(), WriteFault> {
-        write_record(self, writer)?;
-        write_reason(self, writer)?;
-        write_facts(&self.facts, writer)?;
-        write_put_right(self.put_right, writer)?;
-        write_markup("\n", writer)
+    fn write_row(&self, out: &mut Vec<u8>) -> Result<(), AllocError> {
+        write_record(self, out)?;
+        write_reason(self, out)?;
+        write_facts(&self.facts, out)?;
+        write_put_right(self.put_right, out)?;
+        write_markup("\n", out)
     }
 }

@@ -8,6 +8,7 @@ ghost use Rattle.cns_exceptions.specs.Sought.{IsFirst, is_sought, later_among, r
 
 use crate::finding::Waiting;
 use cns_feed::ReplayBook;
+use cns_history::entries_of;
 use cns_terms::{Activity, Command, Reply, Taken, Trade};
 use cns_units::{Account, Cusip, Day};
 
@@ -117,7 +118,6 @@ fn with_trade(waiting: &Waiting, trade: &Trade) -> Waiting
 }
 
 /// What an account is to get and to give in an issue by trades that are pending.
-#[tactic(auto, using(crate::proofs::LaterLemmas::later_added, crate::proofs::LaterLemmas::later_passed, crate::proofs::SoughtLemmas::waiting_more))]
 pub fn waiting(book: &ReplayBook, account: Account, issue: Cusip) -> Waiting
     ensures { let S = state_of book.now.log in
         result ≡ waiting_in account issue (later_among (date S.opening (journal_of S)) (looked_at book.now.log.history)) }
@@ -129,14 +129,10 @@ pub fn waiting(book: &ReplayBook, account: Account, issue: Cusip) -> Waiting
         bought: 0,
         sold: 0,
     };
-    for place in 1..u32::MAX {
-        let Some(entry) = book.entry(place) else {
-            return waiting;
-        };
-        let Some(trade) = later(&entry, today) else {
-            continue;
-        };
-        waiting = with_trade(&waiting, &trade);
+    for entry in entries_of(book) {
+        if let Some(trade) = later(&entry, today) {
+            waiting = with_trade(&waiting, &trade);
+        }
     }
     waiting
 }

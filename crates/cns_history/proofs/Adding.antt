@@ -10,7 +10,7 @@ use Rattle.cns_feed.specs.Output.{state_after, state_after_line}
 use Rattle.cns_history.specs.Laws.{SharesAddUp, shares_of}
 use Rattle.cns_history.specs.declared.line.Booking.{Booking}
 use Rattle.cns_history.specs.declared.line.Closing.{Closing}
-use Rattle.cns_history.specs.declared.watched.Watched.{Watched}
+use Rattle.cns_history.specs.declared.play.Watched.{Watched}
 use Rattle.cns_terms.specs.declared.command.Command.{Command}
 
 -- ---- the lines of a record

@@ -1,6 +1,6 @@
 -- Lines that are added one after another.
--- For `add_each_since`, `issues_of` and `add_opened` of everywhere.rt; `accounts_in` of accounts.rt; `accounts_on` of folder.rt in cns_page.
-use Rattle.cns_history.proofs.Common.{◌≡◌, ◌∙◌, sym, ap, refl, ℕ, ◌+◌, ◌<◌, Bool, false, cond, filter, slice_get, Ok, arith, List, [], ◌∷◌, ◌++◌, Option, None, Some, append_assoc, append-nil, filter_map, map, cons_option, flat_map, Account, Cusip, Price, prices_above, numbers}
+-- For `add_each_since`, `issues_of` and `add_opened` and `accounts_in` of everywhere.rt; `accounts_on` of folder.rt in cns_page.
+use Rattle.cns_history.proofs.Common.{◌≡◌, ◌∙◌, sym, ap, refl, ℕ, ◌+◌, ◌<◌, Bool, false, cond, filter, slice_get, Ok, arith, List, [], ◌∷◌, ◌++◌, Option, None, Some, append-nil, filter_map, map, cons_option, Account, Cusip, Price, prices_above, numbers}
 use Rattle.std.specs.Option.{option_to_list}
 use Rattle.std.proofs.lemmas.List.{map-id}
 use Rattle.std.proofs.lemmas.List.Elements.{filter-append, filter_map-append}
@@ -13,10 +13,6 @@ both_given f xs ys = filter_map-append f xs ys
 
 pub as_list : {X : Type 0} (o : Option X) → cons_option o [] ≡ option_to_list o
 as_list o = grind arith
-
-pub both_mapped : {X Y : Type 0} (f : X → List Y) (xs ys : List X) → flat_map f (xs ++ ys) ≡ flat_map f xs ++ flat_map f ys
-both_mapped f [] ys = refl
-both_mapped f (x ∷ xs) ys = grind (arith, append_assoc, both_mapped f xs ys)
 
 -- all issues are above none
 pub all_above : (es : List (Cusip × Price)) → prices_above es None ≡ es

@@ -5,7 +5,7 @@ pub use Rattle.cns_feed.specs.Output.{state_after, state_after_line}
 pub use Rattle.cns_history.specs.declared.line.Booking.{Booking}
 pub use Rattle.cns_history.specs.declared.line.Closing.{Closing}
 pub use Rattle.cns_history.specs.declared.line.HistoryLine.{HistoryLine}
-pub use Rattle.cns_history.specs.declared.watched.Watched.{Watched}
+pub use Rattle.cns_history.specs.declared.play.Watched.{Watched}
 pub use Rattle.cns_tables.specs.Escape.{escaped}
 pub use Rattle.cns_tables.specs.Tables.{table_text}
 pub use Rattle.cns_tables.specs.Pieces.{filled, piece_text}

@@ -3,5 +3,4 @@ pub mod Lines
 pub mod Entries
 pub mod Words
 pub mod Texts
-pub mod Page
 pub mod Laws

@@ -9,7 +9,7 @@ use Rattle.cns_terms.specs.declared.holding.Holding.{Holding}
 use Rattle.cns_terms.specs.declared.reply.Reply.{Reply}
 use Rattle.cns_positions.specs.Rows.{zeros}
 use Rattle.cns_sheets.specs.Search.{row_at}
-use Rattle.cns_history.specs.declared.watched.Whose.{Whose}
+use Rattle.cns_history.specs.declared.play.Whose.{Whose}
 
 -- what stands at a key; zeros where a POSITION would be refused
 abbrev pub standing : State → Key → Holding

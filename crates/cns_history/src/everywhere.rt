@@ -1,17 +1,60 @@
-// What an activity books at all places of some accounts.
+// The accounts that have positions, and what an activity books at all their places.
 ghost use Rattle.std.specs.Prelude.{◌≡◌, ◌++◌, IfOk, OnOk, filter_map, map};
 ghost use Rattle.cns_book.specs.Log.{state_of};
-ghost use Rattle.cns_history.specs.Lines.{booked_since, bookings_since, both, each, issues_on, opened_since, place, places, stood};
+ghost use Rattle.cns_history.specs.Lines.{accounts_in, accounts_of, booked_since, bookings_since, both, each, has_position, issues_on, opened_since, place, places, stood};
 
-use crate::accounts::accounts_of;
 use crate::line::HistoryLine;
+use crate::play::Whose;
 use crate::told::{Answered, Stood, add_since};
-use crate::watched::Whose;
 use cns_feed::ReplayBook;
 use cns_sheets::Sheet;
 use cns_terms::{Activity, Key, NoMemory, Reply};
 use cns_units::{Account, Cusip, Day};
 use std::alloc::Global;
+
+// The numbers of accounts are below it.
+const NUMBERS: u16 = 10_000;
+
+// Whether the account with a number has a position in an issue.
+fn has_position(book: &ReplayBook, issue: Cusip, account: Account) -> bool
+    ensures { result ≡ has_position (state_of book.now.log) issue account }
+{
+    book.position(account, issue).is_some()
+}
+
+/// The accounts that have a position in an issue, by number: the corporation's and the members', where the issue is listed.
+#[tactic(auto, using(crate::proofs::Owned::number_more, crate::proofs::Owned::account_is, crate::proofs::Owned::no_numbers))]
+pub fn accounts_in(alloc: Global, book: &ReplayBook, issue: Cusip) -> Result<Vec<Account>, NoMemory>
+    ensures { IfOk result (λ v. v.items ≡ accounts_in (state_of book.now.log) issue) }
+{
+    let mut accounts = Vec::new(alloc);
+    for number in 0..NUMBERS {
+        let Ok(account) = Account::new(number) else {
+            unreachable!()
+        };
+        if !has_position(book, issue, account) {
+            continue;
+        }
+        accounts.push(account)?;
+    }
+    Ok(accounts)
+}
+
+/// The accounts whose bookings in some issues are wanted, of which the first is given, if there is one.
+pub fn accounts_of(
+    alloc: Global,
+    book: &ReplayBook,
+    whose: &Whose,
+    first: Option<Cusip>,
+) -> Result<Vec<Account>, NoMemory>
+    ensures { IfOk result (λ v. v.items ≡ accounts_of whose.now (state_of book.now.log) first) }
+{
+    match (whose, first) {
+        (Whose::One(account), _) => Ok(vec![in alloc; *account]?),
+        (Whose::All, Some(issue)) => accounts_in(alloc, book, issue),
+        (Whose::All, None) => Ok(Vec::new(alloc)),
+    }
+}
 
 // The places of two accounts in an issue, of one and the same once, where their bookings are wanted.
 fn both(
@@ -40,7 +83,7 @@ fn both(
 }
 
 // The places of each account whose bookings are wanted, in some issues.
-#[tactic(auto, using(crate::proofs::Owned::both_mapped, std::proofs::lemmas::Grind::common_steps))]
+#[tactic(auto, using(std::proofs::lemmas::Grind::common_steps))]
 fn each(
     alloc: Global,
     book: &ReplayBook,
@@ -180,7 +223,7 @@ fn add_opened(
 }
 
 // The same for each account whose bookings are wanted.
-#[tactic(auto, using(crate::proofs::Owned::both_given, crate::proofs::Owned::both_mapped, std::proofs::lemmas::Grind::common_steps))]
+#[tactic(auto, using(crate::proofs::Owned::both_given, std::proofs::lemmas::Grind::common_steps))]
 fn add_each_opened(
     book: &ReplayBook,
     whose: &Whose,

@@ -1,15 +1,13 @@
 // The lines of a history.
-ghost use Rattle.std.specs.Prelude.{◌≡◌, IfOk, OnOk, filter};
-ghost use Rattle.std.specs.Io.KnownBytes.{Appends};
+ghost use Rattle.std.specs.Prelude.{◌≡◌, ◌++◌, IfOk, OnOk, filter};
 ghost use Rattle.cns_history.specs.Lines.{is_line_of};
 ghost use Rattle.cns_history.specs.Texts.{booking_text, closing_text, worth};
 
 use crate::words::write_what;
 use cns_tables::{Piece, TableRow, cents_of, write_form};
 use cns_terms::{Activity, NoMemory, Row};
-use cns_units::{Account, Cents, Cusip, Day, WriteFault};
-use std::alloc::Global;
-use std::io::Write;
+use cns_units::{Account, Cents, Cusip, Day};
+use std::alloc::{AllocError, Global};
 
 /// What a record booked at a place.
 #[derive(Clone, Copy)]
@@ -71,10 +69,10 @@ pub fn worth(row: &Row) -> Cents
     Cents::of(row.price.worth(row.closing))
 }
 
-// Writes the number and the date, what it was, and shares, cents, position and money.
+// Adds the number and the date, what it was, and shares, cents, position and money.
 #[tactic(auto, unfolding(crate::specs::Texts::booking_text), using(cns_tables::proofs::Written::after))]
-fn write_booking<W: Write>(booking: &Booking, writer: &mut W) -> Result<(), WriteFault>
-    ensures { OnOk result (Appends (W.contents writer.old) (W.contents writer.new) (booking_text booking.now)) }
+fn write_booking(booking: &Booking, out: &mut Vec<u8>) -> Result<(), AllocError>
+    ensures { OnOk result (out.new.items ≡ out.old.items ++ booking_text booking.now) }
 {
     let begin = [Piece::Number(booking.number), Piece::Date(booking.date)];
     let figures = [
@@ -83,15 +81,15 @@ fn write_booking<W: Write>(booking: &Booking, writer: &mut W) -> Result<(), Writ
         Piece::Signed(booking.position),
         Piece::Amount(booking.money),
     ];
-    write_form(BEGIN, &begin, writer)?;
-    write_what(booking.account, &booking.activity, writer)?;
-    write_form(FIGURES, &figures, writer)
+    write_form(BEGIN, &begin, out)?;
+    write_what(booking.account, &booking.activity, out)?;
+    write_form(FIGURES, &figures, out)
 }
 
-// Writes the number, the date, the day, position, settling money, price, value, mark, closes short and dividend.
+// Adds the number, the date, the day, position, settling money, price, value, mark, closes short and dividend.
 #[tactic(auto, unfolding(crate::specs::Texts::closing_text))]
-fn write_closing<W: Write>(closing: &Closing, writer: &mut W) -> Result<(), WriteFault>
-    ensures { OnOk result (Appends (W.contents writer.old) (W.contents writer.new) (closing_text closing.now)) }
+fn write_closing(closing: &Closing, out: &mut Vec<u8>) -> Result<(), AllocError>
+    ensures { OnOk result (out.new.items ≡ out.old.items ++ closing_text closing.now) }
 {
     let row = &closing.row;
     let pieces = [
@@ -106,7 +104,7 @@ fn write_closing<W: Write>(closing: &Closing, writer: &mut W) -> Result<(), Writ
         Piece::Number(u64::from(closing.age)),
         Piece::Amount(row.dividend),
     ];
-    write_form(CLOSE, &pieces, writer)
+    write_form(CLOSE, &pieces, out)
 }
 
 impl TableRow for HistoryLine {
@@ -115,10 +113,10 @@ impl TableRow for HistoryLine {
 
     ghost text = { line_text };
 
-    fn write_row<W: Write>(&self, writer: &mut W) -> Result<(), WriteFault> {
+    fn write_row(&self, out: &mut Vec<u8>) -> Result<(), AllocError> {
         match self {
-            HistoryLine::Booking(booking) => write_booking(booking, writer),
-            HistoryLine::Closing(closing) => write_closing(closing, writer),
+            HistoryLine::Booking(booking) => write_booking(booking, out),
+            HistoryLine::Closing(closing) => write_closing(closing, out),
         }
     }
 }

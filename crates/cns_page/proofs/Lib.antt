@@ -1,4 +1,5 @@
 pub mod Gathered
 pub mod CommandLine
 pub mod MakeLemmas
+pub mod Added
 pub mod Common

@@ -1,90 +1,98 @@
 -- The page of an account's closed day.
-use Rattle.std.specs.Prelude.{◌≡◌, ℕ, ◌==◌, ◌||◌, Bool, if◌then◌else◌, List, [], ◌∷◌, ◌++◌, filter, length, map, Some}
+use Rattle.std.specs.Prelude.{◌≡◌, ℕ, ◌==◌, ◌||◌, Bool, if◌then◌else◌, List, [], ◌∷◌, ◌++◌, filter, filter_map, map, Some}
 use Rattle.std.specs.Arc.{arc_value}
-use Rattle.cns_page.specs.Common.{decimal, day_text, Account, Day, state_of, fail, fail_text, booked_text, is_line_of, mark_text, position_text, Fail, piece_text, table_text, STYLE, ClosedDay, START, Aged, Due, Piece, filled}
-use Rattle.cns_account.specs.Day.{IsAccountDay}
+use Rattle.cns_page.specs.Common.{decimal, day_text, Account, Day, state_of, fail, fail_text, booked_text, is_line_of, mark_text, position_text, Fail, piece_text, HasMore, Page, shown, STYLE, ClosedDay, START, Aged, Due, Piece, filled, About}
 use Rattle.cns_account.specs.Dividends.{dividend_text, dividends_paid}
+use Rattle.cns_account.specs.Rows.{account_row, booking_in, mark_row, totals_of}
+use Rattle.cns_account.specs.declared.row.AccountRow.{AccountRow}
+use Rattle.cns_account.specs.declared.row.Totals.{Totals}
 use Rattle.cns_day.specs.Due.{projected_all, projected_text}
+use Rattle.cns_day.specs.Listed.{next_day}
+use Rattle.cns_day.specs.Rows.{due_text, notice_row, owing_text}
 use Rattle.cns_exceptions.specs.Exceptions.{finding_text}
 use Rattle.cns_exceptions.specs.Survey.{names}
+use Rattle.cns_exceptions.specs.declared.finding.Cited.{Cited}
 use Rattle.cns_page.specs.Foot.{foot_text}
-use Rattle.cns_day.specs.Listed.{next_day}
-use Rattle.cns_page.specs.Page.{sum_of}
-use Rattle.cns_day.specs.Rows.{due_text, notice_row, owing_text}
-use Rattle.cns_page.specs.declared.own.Own.{Own}
 use Rattle.cns_page.specs.declared.account.OwnCaptions.{OwnCaptions}
 use Rattle.cns_page.specs.declared.account.TheConstants.{HEAD, LINKED, MAIN}
+use Rattle.cns_terms.specs.Sheets.{rows_for, statement}
+use Rattle.cns_terms.specs.declared.reply.Stated.{Stated}
 
--- ---- the rows
+-- ---- the head
 
--- whether a trade is the account's
-abbrev pub is_party : Account → Due → Bool
-is_party a d = d.trade.buyer == a || d.trade.seller == a
-
--- a short, with its first close and what the price did to it since
-abbrev pub fail_at : ClosedDay → Aged → Fail
-fail_at d s = fail (state_of d.played.book.log) d.shared.past d.close.date s.row s.age
-
--- its fails: its shorts among those of all members
-abbrev pub own_fails : Account → ClosedDay → List Fail
-own_fails a d = map (fail_at d) (filter (λ s. s.row.account == a) d.shared.shorts.items)
-
--- the rows of the page of an account, among those of all accounts, by the lines of what the day's records booked for it
-pub record AreOwn (a : Account) (d : ClosedDay) (own : Own) : Type 0 where
-  pub day : IsAccountDay (state_of d.played.book.log) (arc_value d.sheet) a d.shared.moves (filter (is_line_of a) d.played.lines.items) own.day
-  pub trades : own.trades.items ≡ filter (is_party a) d.shared.trades.items
-  pub due : own.due.items ≡ projected_all (state_of d.played.book.log) a d.shared.later (arc_value d.sheet).prices
-  pub dividends : own.dividends.items ≡ dividends_paid (state_of d.played.book.log) d.shared.past a (arc_value d.sheet)
-  pub fails : own.fails.items ≡ own_fails a d
-  pub liable : own.liable.items ≡ filter (λ o. o.liable.member == a) d.shared.liable.items
-  pub notices : own.notices.items ≡ filter (λ n. n.notice.member == a) d.shared.notices.items
-  pub exceptions : map (λ c. c.finding.now) own.exceptions.items ≡ filter (names a) d.played.survey.findings.items
-
--- how many rows each table has
-abbrev pub row_counts : Own → List ℕ
-row_counts o =
-    length o.day.rows.items ∷ length o.day.marks.items ∷ length o.dividends.items ∷ length o.due.items ∷ length o.fails.items
-    ∷ length o.liable.items ∷ length o.notices.items ∷ length o.trades.items ∷ length o.day.bookings.items ∷ length o.exceptions.items ∷ []
-
--- ---- the text
+-- the rows of its statement, in order, each with what moved it
+abbrev pub account_rows : ClosedDay → Account → List AccountRow
+account_rows d a = map (account_row (state_of d.source.played.book.log) d.shared.moves) (rows_for (arc_value d.sheet).rows a)
 
 -- the account and the day in the title and in the heading, the day's number, what the positions above 0, those below 0 and all are
--- worth, the marks, the dividends, and the next day
-unfoldable pub head_text : Account → ClosedDay → Own → List ℕ
-head_text a d own =
+-- worth, the marks and the dividends of the statement, and the next day
+unfoldable pub head_text : Stated → Totals → ClosedDay → List ℕ
+head_text s t d =
     let c = d.close in
-    let t = own.day.totals in
-    filled HEAD.now (START.now ∷ decimal a ∷ day_text c.date ∷ STYLE.now ∷ decimal a ∷ day_text c.date ∷ decimal c.day
+    filled HEAD.now (START.now ∷ decimal s.account ∷ day_text c.date ∷ STYLE.now ∷ decimal s.account ∷ day_text c.date ∷ decimal c.day
     ∷ piece_text (Piece.Amount t.long) ∷ piece_text (Piece.Amount t.short) ∷ piece_text (Piece.Amount t.net)
-    ∷ piece_text (Piece.Amount own.day.stated.mark) ∷ piece_text (Piece.Amount own.day.stated.dividend) ∷ day_text (next_day d.played.book.log) ∷ [])
+    ∷ piece_text (Piece.Amount s.mark) ∷ piece_text (Piece.Amount s.dividend) ∷ day_text (next_day d.source.played.book.log) ∷ [])
 
 -- the link to the page of the day, where there is one, and the end of the head
 abbrev pub nav_text : Bool → Day → List ℕ
 nav_text linked d = if linked then filled LINKED.now (day_text d ∷ []) else MAIN.now
 
--- these tables in this order
-abbrev pub tables_text : OwnCaptions → Own → List ℕ
-tables_text t o =
-    table_text position_text t.positions o.day.rows.items
-    ++ (table_text mark_text t.marks o.day.marks.items
-    ++ (table_text dividend_text t.dividends o.dividends.items
-    ++ (table_text projected_text t.due o.due.items
-    ++ (table_text fail_text t.fails o.fails.items
-    ++ (table_text owing_text t.liable o.liable.items
-    ++ (table_text notice_row t.notices o.notices.items
-    ++ (table_text due_text t.trades o.trades.items
-    ++ (table_text booked_text t.bookings o.day.bookings.items
-    ++ table_text (λ c. finding_text c.finding.now) t.exceptions o.exceptions.items))))))))
+pub record IsHeaded (a : Account) (d : ClosedDay) (rows : List AccountRow) (p : Page) : Type 0 where
+  pub text : p.text.items ≡ head_text (statement (arc_value d.sheet) a) (totals_of rows) d ++ nav_text d.is_linked d.close.date
+  pub none : p.rows ≡ 0
 
--- a page with some captions: the head, the tables, and the foot
-abbrev pub account_text : OwnCaptions → Account → ClosedDay → Own → List ℕ
-account_text t a d own =
-    head_text a d own ++ (nav_text d.is_linked d.close.date ++ (tables_text t own
-    ++ foot_text d.opening (Some d.close.date) (Some a) d.origin (sum_of (row_counts own))))
+-- ---- tables that are added to a page, each with exactly these rows in order
 
--- a text is the page of what a closed day did to an account, with some captions
+-- positions, and how their marks come about
+abbrev pub shows_marks : OwnCaptions → List AccountRow → List (List ℕ × ℕ)
+shows_marks t rows = shown position_text t.positions rows ∷ shown mark_text t.marks (map mark_row rows) ∷ []
+
+-- a short, with its first close and what the price did to it since
+abbrev pub fail_at : ClosedDay → Aged → Fail
+fail_at d s = fail (state_of d.source.played.book.log) d.shared.past d.close.date s.row s.age
+
+-- its fails: its shorts among those of all members
+abbrev pub own_fails : Account → ClosedDay → List Fail
+own_fails a d = map (fail_at d) (filter (λ s. s.row.account == a) d.shared.shorts.items)
+
+-- the dividends that the close paid it, what is due, and its fails
+abbrev pub shows_shorts : OwnCaptions → Account → ClosedDay → List (List ℕ × ℕ)
+shows_shorts t a d =
+    let S = state_of d.source.played.book.log in
+    shown dividend_text t.dividends (dividends_paid S d.shared.past a (arc_value d.sheet))
+    ∷ shown projected_text t.due (projected_all S a d.shared.later (arc_value d.sheet).prices) ∷ shown fail_text t.fails (own_fails a d) ∷ []
+
+-- whether a trade is the account's
+abbrev pub is_party : Account → Due → Bool
+is_party a d = d.trade.buyer == a || d.trade.seller == a
+
+-- its liabilities, its live notices, and its trades that settle later
+abbrev pub shows_coming : OwnCaptions → Account → ClosedDay → List (List ℕ × ℕ)
+shows_coming t a d =
+    shown owing_text t.liable (filter (λ o. o.liable.member == a) d.shared.liable.items)
+    ∷ shown notice_row t.notices (filter (λ n. n.notice.member == a) d.shared.notices.items)
+    ∷ shown due_text t.trades (filter (is_party a) d.shared.trades.items) ∷ []
+
+-- what the day's records booked for it, by their lines, and the first refused records that name it
+pub record ShowsRecords (t : OwnCaptions) (a : Account) (d : ClosedDay) (old new : Page) : Type 0 where
+  pub exceptions : List Cited
+  pub are : map (λ c. c.finding.now) exceptions ≡ filter (names a) d.source.played.survey.findings.items
+  pub added : HasMore (shown booked_text t.bookings (filter_map booking_in (filter (is_line_of a) d.source.played.lines.items))
+      ∷ shown (λ c. finding_text c.finding.now) t.exceptions exceptions ∷ []) old new
+
+-- ---- the page
+
+-- a text is the page of what a closed day did to an account, with some captions: the head, these tables in this order, and the foot
 pub record IsOwnPage (d : ClosedDay) (a : Account) (text : List ℕ) : Type 0 where
-  pub own : Own
-  pub rows : AreOwn a d own
   pub captions : OwnCaptions
-  pub shown : text ≡ account_text captions a d own
+  pub start : Page
+  pub marked : Page
+  pub short : Page
+  pub coming : Page
+  pub whole : Page
+  pub head : IsHeaded a d (account_rows d a) start
+  pub marks : HasMore (shows_marks captions (account_rows d a)) start marked
+  pub shorts : HasMore (shows_shorts captions a d) marked short
+  pub to_come : HasMore (shows_coming captions a d) short coming
+  pub records : ShowsRecords captions a d coming whole
+  pub foot : text ≡ whole.text.items ++ foot_text d.source (Some d.close.date) (About.Account a) whole.rows

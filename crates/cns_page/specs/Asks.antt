@@ -1,5 +1,5 @@
 -- What a line asks for, as `clap` reads its words.
-use Rattle.std.specs.Prelude.{List, [], unwrap_or, Option, Some, None, if◌then◌else◌, option_and_then, option_map, codes}
+use Rattle.std.specs.Prelude.{Bool, is_some, List, [], unwrap_or, Option, Some, None, if◌then◌else◌, option_and_then, option_map, codes}
 use Rattle.cns_page.specs.Common.{day_of, About, Asked, When}
 use Rattle.std.specs.Result.{result_ok}
 use Rattle.std.specs.Str.{bytes_eq}
@@ -21,10 +21,11 @@ page_line = with_rule (with_rule (with_rule dated_line (free_rule (codes "accoun
 abbrev pub found_by : List Text → Option (List Row)
 found_by words = if_taken page_line words (Some (matches_of page_line words))
 
--- the day of an option that may be missing; None where it is there, and neither `today` nor a date
-abbrev pub day_read : Option Text → Option When
-day_read None = Some When.Last
-day_read (Some t) = if bytes_eq t (codes "today") then Some When.Today else option_map When.Closed (result_ok (day_of t))
+-- the day of an option that may be missing: then the last closed one, and of a history the open one; None where it is there, and neither
+-- `today` nor a date
+abbrev pub day_read : Bool → Option Text → Option When
+day_read history None = Some (if history then When.Today else When.Last)
+day_read history (Some t) = if bytes_eq t (codes "today") then Some When.Today else option_map When.Closed (result_ok (day_of t))
 
 -- what the page is about, of options that may be missing: all accounts, one account, its place in an issue, or all into a folder;
 -- None where one of the two is none, an issue is there without an account, or a folder with one of them
@@ -43,7 +44,7 @@ asked_in rows = option_and_then
     (λ opening. option_and_then
     (λ day. option_map (λ about. record { opening = opening; day = day; about = about })
     (about_read (first_of (codes "account") rows) (first_of (codes "issue") rows) (first_of (codes "folder") rows)))
-    (day_read (first_of (codes "day") rows)))
+    (day_read (is_some (first_of (codes "issue") rows)) (first_of (codes "day") rows)))
     (date_in rows (codes "open"))
 
 -- what the words of a line ask for; None where the line is refused

@@ -1,7 +1,9 @@
 pub mod Foot
+pub mod Source
 pub mod Page
 pub mod Files
 pub mod Today
+pub mod History
 pub mod Usage
 pub mod Asks
 pub mod Closed

@@ -1,22 +1,27 @@
 // The page of an account's closed day: a head, tables in a fixed order, and a foot.
-ghost use Rattle.std.specs.Prelude.{◌≡◌, IfOk, OnOk};
-ghost use Rattle.std.specs.Io.KnownBytes.{Appends};
-ghost use Rattle.cns_page.specs.Account.{IsOwnPage, account_text, head_text, nav_text, row_counts, tables_text};
-ghost use Rattle.cns_page.specs.Page.{sum_of};
+ghost use Rattle.std.specs.Prelude.{◌==◌, ◌≡◌, ◌∷◌, [], ◌++◌, IfOk, OnOk, filter, map};
+ghost use Rattle.cns_exceptions.specs.Survey.{names};
+ghost use Rattle.cns_page.specs.Account.{IsHeaded, IsOwnPage, ShowsRecords, account_rows, fail_at, head_text, is_party, nav_text, own_fails, shows_coming, shows_marks, shows_shorts};
+ghost use Rattle.cns_tables.specs.Tables.{HasMore};
 
+use crate::asked::About;
 use crate::captions::{LIABLE, NOTICES, PROJECTION};
 use crate::closed::ClosedDay;
-use crate::contents::sum_of;
 use crate::foot::write_foot;
-use crate::own::{Own, own_of};
-use cns_account::{BOOKINGS, DIVIDENDS, FAILS, MARKS, POSITIONS};
-use cns_tables::{Piece, START, Table, page_style, write_form, write_markup, write_table};
-use cns_terms::NoMemory;
-use cns_units::{Account, Day, WriteFault};
-use std::alloc::Global;
-use std::io::Write;
+use cns_account::{
+    AccountRow, BOOKINGS, DIVIDENDS, FAILS, Fail, MARKS, POSITIONS, Totals, bookings_in,
+    dividends_of, fail_of, marks_of, rows_of, totals_of,
+};
+use cns_day::{Aged, Due, Numbered, Owing, projected_all};
+use cns_exceptions::{Cited, Finding};
+use cns_history::lines_for;
+use cns_tables::{Page, Piece, START, Table, page_style, write_form, write_markup};
+use cns_terms::{NoMemory, Stated};
+use cns_units::{Account, Day};
+use std::alloc::{AllocError, Global};
 
 /// The tables of an account's page.
+#[derive(Clone, Copy)]
 pub struct OwnCaptions {
     pub positions: Table,
     pub marks: Table,
@@ -54,7 +59,7 @@ that decided",
     columns: &["Record", "As given", "Why", "Facts"],
 };
 
-const TABLES: OwnCaptions = OwnCaptions {
+const OWN: OwnCaptions = OwnCaptions {
     positions: POSITIONS,
     marks: MARKS,
     dividends: DIVIDENDS,
@@ -75,6 +80,11 @@ const TABLES: OwnCaptions = OwnCaptions {
     bookings: BOOKINGS,
     exceptions: NAMING,
 };
+
+/// The tables of an account's page. What a caller shows of them need not look at their bytes.
+fn own_captions() -> OwnCaptions {
+    OWN
+}
 
 // The head: start, account, date, style, account, date, the day's number, market value long, short and net, mark, dividends, and the
 // next day.
@@ -97,17 +107,17 @@ const MAIN: &str = "</header>
 <main id=main>
 ";
 
-// Writes the account and the day, what the positions are worth, mark and dividends, and the next day.
+// Adds the account and the day, what the positions are worth, mark and dividends, and the next day.
 #[tactic(auto, unfolding(crate::specs::Account::head_text))]
-fn write_head<W: Write>(
-    account: Account,
+fn write_head(
+    stated: &Stated,
+    totals: &Totals,
     day: &ClosedDay,
-    own: &Own<'_>,
-    writer: &mut W,
-) -> Result<(), WriteFault>
-    ensures { OnOk result (Appends (W.contents writer.old) (W.contents writer.new) (head_text account day.now own.now)) }
+    out: &mut Vec<u8>,
+) -> Result<(), AllocError>
+    ensures { OnOk result (out.new.items ≡ out.old.items ++ head_text stated.now totals.now day.now) }
 {
-    let number = u64::from(account.value());
+    let number = u64::from(stated.account.value());
     let date = day.close.date;
     let pieces = [
         Piece::Markup(START),
@@ -117,89 +127,201 @@ fn write_head<W: Write>(
         Piece::Number(number),
         Piece::Date(date),
         Piece::Number(u64::from(day.close.day)),
-        Piece::Amount(own.day.totals.long),
-        Piece::Amount(own.day.totals.short),
-        Piece::Amount(own.day.totals.net),
-        Piece::Amount(own.day.stated.mark),
-        Piece::Amount(own.day.stated.dividend),
-        Piece::Date(day.played.book.today()),
+        Piece::Amount(totals.long),
+        Piece::Amount(totals.short),
+        Piece::Amount(totals.net),
+        Piece::Amount(stated.mark),
+        Piece::Amount(stated.dividend),
+        Piece::Date(day.source.played.book.today()),
     ];
-    write_form(HEAD, &pieces, writer)
+    write_form(HEAD, &pieces, out)
 }
 
-// Writes the link to the page of the day, where the page stands in a folder with it, and the end of the head.
-fn write_nav<W: Write>(is_linked: bool, date: Day, writer: &mut W) -> Result<(), WriteFault>
-    ensures { OnOk result (Appends (W.contents writer.old) (W.contents writer.new) (nav_text is_linked date)) }
+// Adds the link to the page of the day, where the page stands in a folder with it, and the end of the head.
+fn write_nav(is_linked: bool, date: Day, out: &mut Vec<u8>) -> Result<(), AllocError>
+    ensures { OnOk result (out.new.items ≡ out.old.items ++ nav_text is_linked date) }
 {
     if is_linked {
-        write_form(LINKED, &[Piece::Date(date)], writer)
+        write_form(LINKED, &[Piece::Date(date)], out)
     } else {
-        write_markup(MAIN, writer)
+        write_markup(MAIN, out)
     }
 }
 
-// Writes the tables.
-fn write_tables<W: Write>(
+// A page with its head, by the account's rows.
+fn headed(
+    alloc: Global,
+    account: Account,
+    day: &ClosedDay,
+    rows: &[AccountRow],
+) -> Result<Page, AllocError>
+    ensures { IfOk result (IsHeaded account day.now rows.now) }
+{
+    let stated = day.sheet.stated(account);
+    let totals = totals_of(rows);
+    let mut page = Page::new(alloc);
+    write_head(&stated, &totals, day, &mut page.text)?;
+    write_nav(day.is_linked, day.close.date, &mut page.text)?;
+    Ok(page)
+}
+
+// Adds positions, and how their marks come about.
+fn write_marks(
+    alloc: Global,
     captions: &OwnCaptions,
-    own: &Own<'_>,
-    writer: &mut W,
-) -> Result<(), WriteFault>
-    ensures { OnOk result (Appends (W.contents writer.old) (W.contents writer.new) (tables_text captions.now own.now)) }
+    rows: &[AccountRow],
+    page: &mut Page,
+) -> Result<(), NoMemory>
+    ensures { OnOk result (HasMore (shows_marks captions.now rows.now) page.old page.new) }
 {
-    write_table(&captions.positions, own.day.rows.as_slice(), writer)?;
-    write_table(&captions.marks, own.day.marks.as_slice(), writer)?;
-    write_table(&captions.dividends, own.dividends.as_slice(), writer)?;
-    write_table(&captions.due, own.due.as_slice(), writer)?;
-    write_table(&captions.fails, own.fails.as_slice(), writer)?;
-    write_table(&captions.liable, own.liable.as_slice(), writer)?;
-    write_table(&captions.notices, own.notices.as_slice(), writer)?;
-    write_table(&captions.trades, own.trades.as_slice(), writer)?;
-    write_table(&captions.bookings, own.day.bookings.as_slice(), writer)?;
-    write_table(&captions.exceptions, own.exceptions.as_slice(), writer)
+    let marks = marks_of(alloc, rows)?;
+    page.table(&captions.positions, rows)?;
+    page.table(&captions.marks, marks.as_slice())?;
+    Ok(())
 }
 
-// How many rows the tables have.
-fn rows_of(own: &Own<'_>) -> u64
-    ensures { result ≡ sum_of (row_counts own.now) }
+// Shorts, each with its first close and what the price did to it since.
+fn fails_of(alloc: Global, day: &ClosedDay, shorts: &[Aged]) -> Result<Vec<Fail>, NoMemory>
+    ensures { IfOk result (λ v. v.items ≡ map (fail_at day.now) shorts.now) }
 {
-    sum_of(&[
-        own.day.rows.len(),
-        own.day.marks.len(),
-        own.dividends.len(),
-        own.due.len(),
-        own.fails.len(),
-        own.liable.len(),
-        own.notices.len(),
-        own.trades.len(),
-        own.day.bookings.len(),
-        own.exceptions.len(),
-    ])
+    let book = &day.source.played.book;
+    let past = &day.shared.past;
+    let mut fails = Vec::new(alloc);
+    for short in shorts {
+        let fail = fail_of(alloc, book, past, day.close.date, &short.row, short.age)?;
+        fails.push(fail)?;
+    }
+    Ok(fails)
 }
 
-// Writes the page with some captions.
-#[tactic(auto, using(cns_tables::proofs::Written::after))]
-fn write_text<W: Write>(
+// The account's fails.
+fn own_fails(alloc: Global, account: Account, day: &ClosedDay) -> Result<Vec<Fail>, NoMemory>
+    ensures { IfOk result (λ v. v.items ≡ own_fails account day.now) }
+{
+    let shorts: Vec<Aged> = day
+        .shared
+        .shorts
+        .iter()
+        .copied()
+        .filter(|short| short.row.account == account)
+        .collect(alloc)?;
+    fails_of(alloc, day, shorts.as_slice())
+}
+
+// Adds dividends, what is due, and fails.
+fn write_shorts(
+    alloc: Global,
     captions: &OwnCaptions,
     account: Account,
     day: &ClosedDay,
-    own: &Own<'_>,
-    writer: &mut W,
-) -> Result<(), WriteFault>
-    ensures { OnOk result (Appends (W.contents writer.old) (W.contents writer.new) (account_text captions.now account day.now own.now)) }
+    page: &mut Page,
+) -> Result<(), NoMemory>
+    ensures { OnOk result (HasMore (shows_shorts captions.now account day.now) page.old page.new) }
 {
-    let date = day.close.date;
-    let rows = rows_of(own);
-    write_head(account, day, own, writer)?;
-    write_nav(day.is_linked, date, writer)?;
-    write_tables(captions, own, writer)?;
-    write_foot(
-        day.opening,
-        Some(date),
-        Some(account),
-        &day.origin,
-        rows,
-        writer,
-    )
+    let book = &day.source.played.book;
+    let dividends = dividends_of(alloc, book, &day.shared.past, &day.sheet, account)?;
+    let due = projected_all(alloc, book, &day.sheet, account, &day.shared.later)?;
+    let fails = own_fails(alloc, account, day)?;
+    page.table(&captions.dividends, dividends.as_slice())?;
+    page.table(&captions.due, due.as_slice())?;
+    page.table(&captions.fails, fails.as_slice())?;
+    Ok(())
+}
+
+// Whether a trade is the account's.
+fn is_party(account: Account, due: &Due) -> bool
+    ensures { result ≡ is_party account due.now }
+{
+    due.trade.buyer.account() == account || due.trade.seller.account() == account
+}
+
+fn own_liable(alloc: Global, account: Account, all: &[Owing]) -> Result<Vec<Owing>, NoMemory>
+    ensures { IfOk result (λ v. v.items ≡ filter (λ o. o.liable.member == account) all.now) }
+{
+    let own = all
+        .iter()
+        .copied()
+        .filter(|owing| owing.liable.member.account() == account)
+        .collect(alloc)?;
+    Ok(own)
+}
+
+fn own_notices(alloc: Global, account: Account, all: &[Numbered]) -> Result<Vec<Numbered>, NoMemory>
+    ensures { IfOk result (λ v. v.items ≡ filter (λ n. n.notice.member == account) all.now) }
+{
+    let own = all
+        .iter()
+        .copied()
+        .filter(|live| live.notice.member.account() == account)
+        .collect(alloc)?;
+    Ok(own)
+}
+
+fn own_trades(alloc: Global, account: Account, all: &[Due]) -> Result<Vec<Due>, NoMemory>
+    ensures { IfOk result (λ v. v.items ≡ filter (is_party account) all.now) }
+{
+    let own = all
+        .iter()
+        .copied()
+        .filter(|due| is_party(account, due))
+        .collect(alloc)?;
+    Ok(own)
+}
+
+// Adds what is to come of notices and of trades.
+fn write_coming(
+    alloc: Global,
+    captions: &OwnCaptions,
+    account: Account,
+    day: &ClosedDay,
+    page: &mut Page,
+) -> Result<(), NoMemory>
+    ensures { OnOk result (HasMore (shows_coming captions.now account day.now) page.old page.new) }
+{
+    let shared = &day.shared;
+    let liable = own_liable(alloc, account, shared.liable.as_slice())?;
+    let notices = own_notices(alloc, account, shared.notices.as_slice())?;
+    let trades = own_trades(alloc, account, shared.trades.as_slice())?;
+    page.table(&captions.liable, liable.as_slice())?;
+    page.table(&captions.notices, notices.as_slice())?;
+    page.table(&captions.trades, trades.as_slice())?;
+    Ok(())
+}
+
+// The refused records that name it.
+fn own_exceptions<'a>(
+    alloc: Global,
+    account: Account,
+    findings: &'a [Finding],
+) -> Result<Vec<Cited<'a>>, NoMemory>
+    ensures { IfOk result (λ v. map (λ c. c.finding.now) v.items ≡ filter (names account) findings.now) }
+{
+    let mut own = Vec::new(alloc);
+    for finding in findings {
+        if finding.names(account) {
+            own.push(Cited { finding })?;
+        }
+    }
+    Ok(own)
+}
+
+// Adds what the day's records booked, and those that were refused.
+fn write_records(
+    alloc: Global,
+    captions: &OwnCaptions,
+    account: Account,
+    day: &ClosedDay,
+    page: &mut Page,
+) -> Result<(), NoMemory>
+    ensures { OnOk result (ShowsRecords captions.now account day.now page.old page.new) }
+{
+    let played = &day.source.played;
+    let lines = lines_for(alloc, account, played.lines.as_slice())?;
+    let bookings = bookings_in(alloc, lines.as_slice())?;
+    let exceptions = own_exceptions(alloc, account, played.survey.findings.as_slice())?;
+    page.table(&captions.bookings, bookings.as_slice())?;
+    page.table(&captions.exceptions, exceptions.as_slice())?;
+    Ok(())
 }
 
 /// The page of what a closed day did to an account, by what was watched for it on the day.
@@ -210,10 +332,23 @@ pub(crate) fn own_page(
 ) -> Result<Vec<u8>, NoMemory>
     ensures { IfOk result (λ v. IsOwnPage day.now account v.items) }
 {
-    let own = own_of(alloc, account, day)?;
-    let mut page = Vec::new(alloc);
-    match write_text(&TABLES, account, day, &own, &mut page) {
-        Ok(()) => Ok(page),
-        Err(_) => Err(NoMemory),
-    }
+    let captions = &own_captions();
+    let source = &day.source;
+    let rows = rows_of(
+        alloc,
+        &source.played.book,
+        &day.sheet,
+        account,
+        &day.shared.moves,
+    )?;
+    let rows = rows.as_slice();
+    let mut page = headed(alloc, account, day, rows)?;
+    write_marks(alloc, captions, rows, &mut page)?;
+    write_shorts(alloc, captions, account, day, &mut page)?;
+    write_coming(alloc, captions, account, day, &mut page)?;
+    write_records(alloc, captions, account, day, &mut page)?;
+    let count = page.rows;
+    let about = About::Account(account);
+    write_foot(source, Some(day.close.date), about, count, &mut page.text)?;
+    Ok(page.text)
 }

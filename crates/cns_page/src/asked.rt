@@ -27,7 +27,7 @@ pub enum When {
     Last,
     /// The closed day with the date.
     Closed(Day),
-    /// The day that is open, so far.
+    /// The day that is open, so far; of a history all records.
     Today,
 }
 
@@ -76,12 +76,12 @@ fn matches_in<'a, S: AsStr>(
     matches_of(command_line(alloc)?, words)
 }
 
-// The day that is asked for; None where it is neither `today` nor a date.
-fn day_of(text: Option<&str>) -> Option<When>
-    ensures { result ≡ day_read (option_map (λ s. s.now) text.entry) }
+// The day that is asked for; None where it is neither `today` nor a date. A history goes through the open day, where none is given.
+fn day_of(text: Option<&str>, is_history: bool) -> Option<When>
+    ensures { result ≡ day_read is_history (option_map (λ s. s.now) text.entry) }
 {
     let Some(text) = text else {
-        return Some(When::Last);
+        return Some(if is_history { When::Today } else { When::Last });
     };
     if text == "today" {
         return Some(When::Today);
@@ -112,12 +112,9 @@ fn asked_in(matches: &ArgMatches<'_>) -> Option<Asked>
     ensures { result ≡ asked_in (rows_of (found_of matches.now)) }
 {
     let opening = date_of(matches, "open")?;
-    let day = day_of(value(matches, "day"))?;
-    let about = about_of(
-        value(matches, "account"),
-        value(matches, "issue"),
-        value(matches, "folder"),
-    )?;
+    let issue = value(matches, "issue");
+    let day = day_of(value(matches, "day"), issue.is_some())?;
+    let about = about_of(value(matches, "account"), issue, value(matches, "folder"))?;
     Some(Asked {
         opening,
         day,

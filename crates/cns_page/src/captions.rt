@@ -2,18 +2,19 @@
 use cns_tables::Table;
 
 /// The tables of a page.
-pub(crate) struct Captions {
-    pub(crate) exceptions: Table,
-    pub(crate) reasons: Table,
-    pub(crate) accounts: Table,
-    pub(crate) issues: Table,
-    pub(crate) fails: Table,
-    pub(crate) liable: Table,
-    pub(crate) notices: Table,
-    pub(crate) due: Table,
-    pub(crate) projection: Table,
-    pub(crate) days: Table,
-    pub(crate) totals: Table,
+#[derive(Clone, Copy)]
+pub struct Captions {
+    pub exceptions: Table,
+    pub reasons: Table,
+    pub accounts: Table,
+    pub issues: Table,
+    pub fails: Table,
+    pub liable: Table,
+    pub notices: Table,
+    pub due: Table,
+    pub projection: Table,
+    pub days: Table,
+    pub totals: Table,
 }
 
 /// Members' fails to deliver.
@@ -79,7 +80,7 @@ The positions above are without them (shares; dollars)",
     ],
 };
 
-pub(crate) const CAPTIONS: Captions = Captions {
+const CAPTIONS: Captions = Captions {
     exceptions: Table {
         id: "exceptions",
         title: "Exceptions",
@@ -172,3 +173,8 @@ stands what will be, with the trades that are pending. Each other position is du
         columns: &["Records", "Count", "Exceptions"],
     },
 };
+
+/// The tables of a page. What a caller shows of them need not look at their bytes.
+pub(crate) fn day_captions() -> Captions {
+    CAPTIONS
+}

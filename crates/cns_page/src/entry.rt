@@ -30,7 +30,6 @@ fn check_asked<R: Files>(rt: &R, about: About, folder: &str) -> Result<(), Fault
 }
 
 // Writes what is asked for, of all that a reader gives.
-#[tactic(auto, using(crate::proofs::MakeLemmas::made_of))]
 fn make_of<R: AllocGlobal + Files<File = File>, I: Read, O: Write>(
     rt: &R,
     asked: &Asked,
@@ -39,7 +38,7 @@ fn make_of<R: AllocGlobal + Files<File = File>, I: Read, O: Write>(
     output: &mut O,
 ) -> Result<(), Fault>
     ensures { OnOk result (IfSome (I.remaining input.old)
-        (λ bytes. HasPage asked.now.about asked.now bytes (O.contents output.old) (O.contents output.new))) }
+        (λ bytes. HasPage asked.now bytes (O.contents output.old) (O.contents output.new))) }
 {
     check_asked(rt, asked.about, folder)?;
     let alloc = rt.alloc();
@@ -63,7 +62,7 @@ pub fn run_words<R: AllocGlobal + Files<File = File>, S: AsStr, I: Read, O: Writ
     ensures status { result.status ≤ 2 }
     ensures page { result.status ≡ 0 → IfSome (I.remaining input.old) (λ bytes. (asked : Asked)
         × (question (map S.text words.now) ≡ Some asked)
-        × HasPage asked.about asked bytes (O.contents output.old) (O.contents output.new)) }
+        × HasPage asked bytes (O.contents output.old) (O.contents output.new)) }
     ensures quiet { result.status ≡ 0 → errors.new ≡ errors.old }
     ensures told { result.status ≡ 1
         → (f : Fault) × Writes (E.contents errors.old) (E.contents errors.new) (fault_line f) result.told }

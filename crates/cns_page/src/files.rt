@@ -1,14 +1,12 @@
 // The files of a folder: each of them is whole, or is not there.
 ghost use Rattle.std.specs.Prelude.{◌≡◌, ◌++◌, IfOk, OnOk, string_bytes};
-ghost use Rattle.std.specs.Io.KnownBytes.{Appends};
 ghost use Rattle.cns_page.specs.Files.{and_kept, name_text};
 
-use crate::foot::write_account_part;
 use cns_shell::Fault;
 use cns_tables::{Piece, write_form, write_markup};
 use cns_terms::NoMemory;
-use cns_units::{Account, Day, WriteFault};
-use std::alloc::Global;
+use cns_units::{Account, Day};
+use std::alloc::{AllocError, Global};
 use std::fs;
 use std::fs::File;
 use std::io::{Error, ErrorKind, Write};
@@ -24,21 +22,34 @@ pub(crate) struct Named {
 // A file's name, but for its end: the date, and the account where the page is one's.
 const OF_DAY: &str = "/_";
 
-const OF_ACCOUNT: &str = "-_";
+const OF_ACCOUNT: &str = "/_-_";
 
 const PAGE: &str = ".html";
 
 // What a file's name ends with until the file is whole.
 const PART: &str = ".html.part";
 
-// Writes a file's name with its end: the date, and the account where the page is one's.
-#[tactic(auto, using(cns_tables::proofs::Written::after))]
-fn write_name<W: Write>(named: &Named, end: &'static str, writer: &mut W) -> Result<(), WriteFault>
-    ensures { OnOk result (Appends (W.contents writer.old) (W.contents writer.new) (name_text named.now end.now)) }
+// Adds a file's name, but for its end.
+fn write_stem(named: &Named, out: &mut Vec<u8>) -> Result<(), AllocError>
+    ensures { OnOk result (out.new.items ≡ out.old.items ++ name_text named.now) }
 {
-    write_form(OF_DAY, &[Piece::Date(named.date)], writer)?;
-    write_account_part(OF_ACCOUNT, named.account, writer)?;
-    write_markup(end, writer)
+    let date = Piece::Date(named.date);
+    match named.account {
+        Some(account) => {
+            let number = Piece::Number(u64::from(account.value()));
+            write_form(OF_ACCOUNT, &[date, number], out)
+        }
+        None => write_form(OF_DAY, &[date], out),
+    }
+}
+
+// Adds a file's name with its end.
+#[tactic(auto, using(cns_tables::proofs::Written::after))]
+fn write_name(named: &Named, end: &'static str, out: &mut Vec<u8>) -> Result<(), AllocError>
+    ensures { OnOk result (out.new.items ≡ out.old.items ++ (name_text named.now ++ end.now)) }
+{
+    write_stem(named, out)?;
+    write_markup(end, out)
 }
 
 // The path of a file in a folder.
@@ -48,17 +59,15 @@ fn path_of(
     named: &Named,
     end: &'static str,
 ) -> Result<String, NoMemory>
-    ensures { IfOk result (λ s. string_bytes s ≡ folder.now ++ (name_text named.now end.now)) }
+    ensures { IfOk result (λ s. string_bytes s ≡ folder.now ++ (name_text named.now ++ end.now)) }
 {
     let mut path = Vec::new(alloc);
     path.extend_from_slice(folder.as_bytes())?;
-    let Ok(()) = write_name(named, end, &mut path) else {
-        return Err(NoMemory);
-    };
-    let Ok(path) = String::from_utf8(path) else {
-        return Err(NoMemory);
-    };
-    Ok(path)
+    write_name(named, end, &mut path)?;
+    match String::from_utf8(path) {
+        Ok(path) => Ok(path),
+        Err(_) => Err(NoMemory),
+    }
 }
 
 // Why a file could not be read.

@@ -18,7 +18,7 @@ fn accounts_on(alloc: Global, day: &ClosedDay) -> Result<Vec<Account>, NoMemory>
     ensures { IfOk result (λ v. v.items ≡ accounts_on day.now) }
 {
     match day.sheet.next_price(None) {
-        Some((issue, _)) => accounts_in(alloc, &day.played.book, issue),
+        Some((issue, _)) => accounts_in(alloc, &day.source.played.book, issue),
         None => Ok(Vec::new(alloc)),
     }
 }

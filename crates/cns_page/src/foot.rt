@@ -1,16 +1,17 @@
 // The foot of a page: how it is made again, from which bytes it was made, and how many rows it has, so that a page that was cut is
 // seen.
-ghost use Rattle.std.specs.Prelude.{◌≡◌, IfOk, IfSome, OnOk};
-ghost use Rattle.std.specs.Io.KnownBytes.{Appends};
-ghost use Rattle.cns_page.specs.Foot.{IsOrigin, account_part, day_word, foot_text, made_text};
+ghost use Rattle.std.specs.Prelude.{◌≡◌, ◌++◌, IfOk, IfSome, OnOk};
+ghost use Rattle.cns_page.specs.Foot.{IsOrigin, about_text, day_word, foot_text, made_text};
 ghost use Rattle.cns_tables.specs.Pieces.{piece_text};
 
+use crate::asked::About;
+use crate::source::Source;
 use cns_shell::Fault;
 use cns_tables::{Piece, write_form};
-use cns_units::{Account, Day, WriteFault};
+use cns_units::Day;
 use sha2::{Digest, Sha256};
-use std::alloc::Global;
-use std::io::{Read, Write};
+use std::alloc::{AllocError, Global};
+use std::io::Read;
 
 /// What a page was made of.
 #[derive(Drop)]
@@ -29,11 +30,13 @@ const AGAIN: &str = "</main>
 
 const TODAY: &str = "today";
 
-// Its option for an account.
-const ACCOUNT_OPTION: &str = " --account _";
+// Its options for an account, and for an account's place in an issue.
+const ACCOUNT: &str = " --account _";
+
+const PLACE: &str = " --account _ --issue _";
 
 // Its end, how many bytes the page was made of, their digest, and how many rows its tables have.
-const MADE: &str = " &lt; records &gt; day.html</code></pre>
+const MADE: &str = " &lt; records &gt; page.html</code></pre>
 <p>Made by cnspage 0.1.0 of the first _ bytes of the records, whose SHA-256 is <code>_</code>.</p>
 <p>End of the page. Its tables have so many rows: _</p>
 </footer>
@@ -75,46 +78,49 @@ fn day_word(day: Option<Day>) -> Piece<'static>
     }
 }
 
-/// Writes a form with an account's number, where there is an account.
-pub(crate) fn write_account_part<W: Write>(
-    form: &'static str,
-    account: Option<Account>,
-    writer: &mut W,
-) -> Result<(), WriteFault>
-    ensures { OnOk result (Appends (W.contents writer.old) (W.contents writer.new) (account_part form.now account)) }
+// Adds the options for what a page is about.
+fn write_about(about: About, out: &mut Vec<u8>) -> Result<(), AllocError>
+    ensures { OnOk result (out.new.items ≡ out.old.items ++ about_text about) }
 {
-    match account {
-        Some(account) => write_form(form, &[Piece::Number(u64::from(account.value()))], writer),
-        None => Ok(()),
+    match about {
+        About::All | About::Folder => Ok(()),
+        About::Account(account) => {
+            let number = Piece::Number(u64::from(account.value()));
+            write_form(ACCOUNT, &[number], out)
+        }
+        About::Place(key) => {
+            let number = Piece::Number(u64::from(key.account.value()));
+            write_form(PLACE, &[number, Piece::Issue(key.issue)], out)
+        }
     }
 }
 
-// Writes what a page was made of, and how many rows its tables have.
+// Adds what a page was made of, and how many rows its tables have.
 #[tactic(auto, unfolding(crate::specs::Foot::made_text))]
-fn write_made<W: Write>(origin: &Origin, rows: u64, writer: &mut W) -> Result<(), WriteFault>
-    ensures { OnOk result (Appends (W.contents writer.old) (W.contents writer.new) (made_text origin.now rows)) }
+fn write_made(origin: &Origin, rows: u64, out: &mut Vec<u8>) -> Result<(), AllocError>
+    ensures { OnOk result (out.new.items ≡ out.old.items ++ made_text origin.now rows) }
 {
     let pieces = [
         Piece::Number(origin.bytes),
         Piece::Text(origin.digest.as_str()),
         Piece::Number(rows),
     ];
-    write_form(MADE, &pieces, writer)
+    write_form(MADE, &pieces, out)
 }
 
-/// Writes the foot of the page of a closed day, or of the open one, of all accounts or of one, with so many rows.
+/// Adds the foot of a page of some records: of a closed day or of the open one, with so many rows.
 #[tactic(auto, using(cns_tables::proofs::Written::after))]
-pub(crate) fn write_foot<W: Write>(
-    opening: Day,
+pub(crate) fn write_foot(
+    source: &Source,
     day: Option<Day>,
-    account: Option<Account>,
-    origin: &Origin,
+    about: About,
     rows: u64,
-    writer: &mut W,
-) -> Result<(), WriteFault>
-    ensures { OnOk result (Appends (W.contents writer.old) (W.contents writer.new) (foot_text opening day account origin.now rows)) }
+    out: &mut Vec<u8>,
+) -> Result<(), AllocError>
+    ensures { OnOk result (out.new.items ≡ out.old.items ++ foot_text source.now day about rows) }
 {
-    write_form(AGAIN, &[Piece::Date(opening), day_word(day)], writer)?;
-    write_account_part(ACCOUNT_OPTION, account, writer)?;
-    write_made(origin, rows, writer)
+    let opening = Piece::Date(source.opening);
+    write_form(AGAIN, &[opening, day_word(day)], out)?;
+    write_about(about, out)?;
+    write_made(&source.origin, rows, out)
 }

@@ -1,132 +1,89 @@
 // The page that is asked for, of the records of an input.
-ghost use Rattle.std.specs.Prelude.{◌≡◌, IfOk, OnOk, map};
+ghost use Rattle.std.specs.Prelude.{◌≡◌, IfOk, OnOk};
 ghost use Rattle.std.specs.Io.KnownBytes.{Appends};
-ghost use Rattle.cns_exceptions.specs.Days.{ended};
-ghost use Rattle.cns_page.specs.Asked.{HasKept, HasPage, HasPast, HasPlayed, IsAccountPage, IsAllPage, IsClosedPage, IsUpTo, day_asked};
+ghost use Rattle.cns_page.specs.Asked.{HasKept, HasPage, IsClosedPage, IsPage, day_of};
 
 use crate::account::own_page;
 use crate::asked::{About, Asked, When};
-use crate::closed::{ClosedDay, asked_day, front_to, last_asked};
+use crate::closed::{ClosedDay, closed_day, is_folder};
 use crate::files::Keeps;
 use crate::folder::keep_day;
+use crate::history::{check_place, history_page};
 use crate::page::day_page;
+use crate::source::{Source, source_of};
 use crate::today::today_page;
-use cns_exceptions::{Days, Input, Played, days_of, play_first};
-use cns_history::{Place, Told, Watched, write_history};
+use cns_exceptions::Input;
 use cns_shell::Fault;
-use cns_tables::hand_on;
+use cns_terms::Key;
 use cns_units::{Account, Day, write_bytes};
 use std::alloc::Global;
 use std::io::Write;
 
-// Whether an account is a member's or the corporation's, so far as the listed issues tell.
+// Checks that an account is a member's or the corporation's, so far as the listed issues tell.
 fn check_account(day: &ClosedDay, account: Account) -> Result<(), Fault> {
-    let Some((issue, _)) = day.sheet.next_price(None) else {
-        return Ok(());
-    };
-    match day.played.book.position(account, issue) {
-        Some(_) => Ok(()),
-        None => Err(Fault::NoSuchMember),
+    match day.sheet.next_price(None) {
+        Some((issue, _)) => check_place(&day.source.played.book, &Key { account, issue }),
+        None => Ok(()),
     }
 }
 
-// The page of all accounts of the closed day that is asked for.
-fn closed_page(alloc: Global, asked: &Asked, input: Input) -> Result<Vec<u8>, Fault>
-    ensures { IfOk result (λ v. IsClosedPage asked.now input v.items) }
-{
-    let day = asked_day(alloc, asked, input)?;
-    Ok(day_page(alloc, &day, &[])?)
-}
-
-// The same of the day that is asked for, closed or open.
-fn all_page(alloc: Global, asked: &Asked, input: Input) -> Result<Vec<u8>, Fault>
-    ensures { IfOk result (λ v. IsAllPage asked.now.day asked.now input v.items) }
-{
-    match asked.day {
-        When::Today => today_page(alloc, asked.opening, input),
-        When::Last | When::Closed(_) => closed_page(alloc, asked, input),
-    }
-}
-
-// The page of an account of the closed day that is asked for.
-fn account_page(
+// The page of a closed day, of all accounts or of one.
+fn closed_page(
     alloc: Global,
     asked: &Asked,
-    account: Account,
-    input: Input,
+    account: Option<Account>,
+    source: Source,
 ) -> Result<Vec<u8>, Fault>
-    ensures { IfOk result (λ v. IsAccountPage account asked.now input v.items) }
+    ensures { IfOk result (λ v. IsClosedPage account asked.now source v.items) }
 {
-    let day = asked_day(alloc, asked, input)?;
-    check_account(&day, account)?;
-    Ok(own_page(alloc, account, &day)?)
-}
-
-// How many records a history is of: those up to the close of the day, or all where none is given.
-fn records_to(days: Days, day: Option<Day>) -> Result<u64, Fault>
-    ensures { IfOk result (IsUpTo (map ended days.closes.items) days.records day) }
-{
-    let Some(day) = day else {
-        return Ok(days.records);
-    };
-    let closes = front_to(days.closes, When::Closed(day));
-    match last_asked(closes.as_slice(), When::Closed(day)) {
-        Some(close) => Ok(close.number),
-        None => Err(Fault::NoSuchDay),
+    let day = closed_day(alloc, asked, source)?;
+    match account {
+        Some(account) => {
+            check_account(&day, account)?;
+            Ok(own_page(alloc, account, &day)?)
+        }
+        None => Ok(day_page(alloc, &day, &[])?),
     }
 }
 
-// What a history is of.
-fn past_of(alloc: Global, place: &Place, input: Input) -> Result<Played, Fault>
-    ensures { IfOk result (HasPlayed place.now input) }
+// The date of the closed day that is asked for, if one is given.
+fn day_of(when: When) -> Option<Day>
+    ensures { result ≡ day_of when }
 {
-    let days = days_of(alloc, input.copied(alloc)?, place.opening)?;
-    let records = records_to(days, place.day)?;
-    let watched = Watched::Place(place.key);
-    Ok(play_first(alloc, input, place.opening, records, records, &watched)?)
-}
-
-// Writes the history of a place.
-fn write_past<O: Write>(
-    alloc: Global,
-    place: &Place,
-    input: Input,
-    output: &mut O,
-) -> Result<(), Fault>
-    ensures { OnOk result (HasPast place.now input (O.contents output.old) (O.contents output.new)) }
-{
-    let played = past_of(alloc, place, input)?;
-    let told = Told {
-        book: &played.book,
-        records: played.survey.records,
-        lines: played.lines.as_slice(),
-    };
-    write_history(place, &told, output)?;
-    Ok(())
-}
-
-// The day up to whose close a history goes; None for all records.
-fn day_asked(day: When) -> Option<Day>
-    ensures { result ≡ day_asked day }
-{
-    match day {
+    match when {
         When::Closed(day) => Some(day),
         _ => None,
     }
 }
 
-// Writes a page, and hands it on.
+// The page that is asked for, of its records; that of all accounts, where it is for a folder.
+fn page_of(alloc: Global, asked: &Asked, source: Source) -> Result<Vec<u8>, Fault>
+    ensures { IfOk result (λ v. IsPage asked.now.about asked.now.day asked.now source v.items) }
+{
+    match (asked.about, asked.day) {
+        (About::Place(key), when) => {
+            check_place(&source.played.book, &key)?;
+            Ok(history_page(alloc, &key, day_of(when), &source)?)
+        }
+        (About::Account(account), _) => closed_page(alloc, asked, Some(account), source),
+        (About::All, When::Today) => Ok(today_page(alloc, &source)?),
+        _ => closed_page(alloc, asked, None, source),
+    }
+}
+
+// Writes a page, and flushes it.
 fn write_page<O: Write>(page: &[u8], output: &mut O) -> Result<(), Fault>
     ensures { OnOk result (Appends (O.contents output.old) (O.contents output.new) page.now) }
 {
     write_bytes(page, output)?;
-    Ok(hand_on(output)?)
+    match output.flush() {
+        Ok(()) => Ok(()),
+        Err(_) => Err(Fault::Write),
+    }
 }
 
-/// Writes the page that is asked for, of the records of an input, and hands it on; or hands the pages for a folder to its keeper.
-///
-/// Where its days end is found by its closes alone. Its records are played once, up to the close of the day, and their memory is given
-/// back as they are. The page of a day is made whole before any of it is written.
+/// Writes the page that is asked for, of the records of an input, and flushes it; or hands the pages for a folder to its keeper. A page is
+/// made whole before any of it is written.
 ///
 /// `NoMemory` where an allocation failed, `Read` where there are 4,294,967,295 records or more, or a file of the folder
 /// cannot be read, `NoSuchDay` where no closed day has the date, or no day is closed,
@@ -140,29 +97,14 @@ pub(crate) fn make<K: Keeps, O: Write>(
     keeper: &mut K,
     output: &mut O,
 ) -> Result<(), Fault>
-    ensures page { OnOk result (HasPage asked.now.about asked.now input (O.contents output.old) (O.contents output.new)) }
-    ensures kept { OnOk result (HasKept asked.now.about asked.now input (K.kept keeper.old) (K.kept keeper.new)) }
+    ensures page { OnOk result (HasPage asked.now input (O.contents output.old) (O.contents output.new)) }
+    ensures kept { OnOk result (HasKept asked.now input (K.kept keeper.old) (K.kept keeper.new)) }
 {
-    match asked.about {
-        About::Place(key) => {
-            let place = Place {
-                opening: asked.opening,
-                day: day_asked(asked.day),
-                key,
-            };
-            write_past(alloc, &place, input, output)
-        }
-        About::Folder => {
-            let day = asked_day(alloc, asked, input)?;
-            keep_day(alloc, &day, keeper)
-        }
-        About::All => {
-            let page = all_page(alloc, asked, input)?;
-            write_page(page.as_slice(), output)
-        }
-        About::Account(account) => {
-            let page = account_page(alloc, asked, account, input)?;
-            write_page(page.as_slice(), output)
-        }
+    let source = source_of(alloc, asked, input)?;
+    if is_folder(asked.about) {
+        let day = closed_day(alloc, asked, source)?;
+        return keep_day(alloc, &day, keeper);
     }
+    let page = page_of(alloc, asked, source)?;
+    write_page(page.as_slice(), output)
 }

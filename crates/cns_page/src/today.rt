@@ -1,35 +1,16 @@
 // The page of the day that is open: its exceptions so far, and how many records there are.
-ghost use Rattle.std.specs.Prelude.{◌≡◌, IfOk, OnOk, take};
-ghost use Rattle.std.specs.Io.KnownBytes.{Appends};
-ghost use Rattle.cns_feed.specs.Output.{lines_of};
-ghost use Rattle.cns_exceptions.specs.Survey.{ComesTo};
-ghost use Rattle.cns_history.specs.declared.watched.Watched.{Watched};
-ghost use Rattle.cns_page.specs.Page.{sum_of};
-ghost use Rattle.cns_page.specs.Today.{IsOpenDay, IsTodayPage, head_text, last_number, row_counts, today_text};
+ghost use Rattle.std.specs.Prelude.{◌≡◌, ◌++◌, IfOk, OnOk};
+ghost use Rattle.cns_page.specs.Today.{IsTodayPage, head_text};
 
-use crate::captions::{CAPTIONS, Captions};
-use crate::contents::sum_of;
-use crate::foot::{Origin, origin_of, write_foot};
-use cns_exceptions::{
-    Counted, Days, Input, Played, Span, Survey, counts_of, days_of, play_first, spans_of,
-};
-use cns_history::Watched;
-use cns_shell::Fault;
-use cns_tables::{Piece, START, page_style, write_form, write_table};
-use cns_units::{Day, WriteFault};
-use std::alloc::Global;
-use std::io::Write;
-
-/// The day that is open after all records of an input.
-#[derive(Drop)]
-pub struct OpenDay {
-    /// The date on which the book was opened.
-    pub opening: Day,
-    /// What the records came to.
-    pub played: Played,
-    /// Their bytes.
-    pub origin: Origin,
-}
+use crate::asked::About;
+use crate::captions::day_captions;
+use crate::foot::write_foot;
+use crate::page::{write_exceptions, write_totals};
+use crate::source::Source;
+use cns_exceptions::Played;
+use cns_tables::{Page, Piece, START, page_style, write_form};
+use cns_terms::NoMemory;
+use std::alloc::{AllocError, Global};
 
 // The head: start, date, style, date, the day's number, the number of the record before it, how many records, and exceptions.
 const HEAD: &str = "_Open day _</title>
@@ -41,10 +22,10 @@ _<a class=skip href=#main>Skip to the day</a>
 <main id=main>
 ";
 
-// Writes the head.
+// Adds the head.
 #[tactic(auto, unfolding(crate::specs::Today::head_text))]
-fn write_head<W: Write>(played: &Played, writer: &mut W) -> Result<(), WriteFault>
-    ensures { OnOk result (Appends (W.contents writer.old) (W.contents writer.new) (head_text played.now)) }
+fn write_head(played: &Played, out: &mut Vec<u8>) -> Result<(), AllocError>
+    ensures { OnOk result (out.new.items ≡ out.old.items ++ head_text played.now) }
 {
     let survey = &played.survey;
     let date = played.book.today();
@@ -58,72 +39,20 @@ fn write_head<W: Write>(played: &Played, writer: &mut W) -> Result<(), WriteFaul
         Piece::Count(survey.records_of_day()),
         Piece::Count(survey.exceptions_of_day()),
     ];
-    write_form(HEAD, &pieces, writer)
+    write_form(HEAD, &pieces, out)
 }
 
-// How many rows the tables of the page have.
-fn rows_of(survey: &Survey, reasons: &[Counted], totals: &[Span]) -> u64
-    ensures { result ≡ sum_of (row_counts survey.now reasons.now totals.now) }
+/// The page of the day that is open after all records.
+pub(crate) fn today_page(alloc: Global, source: &Source) -> Result<Vec<u8>, NoMemory>
+    ensures { IfOk result (λ v. IsTodayPage source.now v.items) }
 {
-    sum_of(&[survey.findings.len(), reasons.len(), totals.len()])
-}
-
-// Writes the page with some captions.
-#[tactic(auto, using(cns_tables::proofs::Written::after))]
-fn write_text<W: Write>(
-    captions: &Captions,
-    day: &OpenDay,
-    reasons: &[Counted],
-    totals: &[Span],
-    writer: &mut W,
-) -> Result<(), WriteFault>
-    ensures { OnOk result (Appends (W.contents writer.old) (W.contents writer.new)
-        (today_text captions.now.exceptions captions.now.reasons captions.now.totals day.now reasons.now totals.now)) }
-{
-    let survey = &day.played.survey;
-    let rows = rows_of(survey, reasons, totals);
-    write_head(&day.played, writer)?;
-    write_table(&captions.exceptions, survey.findings.as_slice(), writer)?;
-    write_table(&captions.reasons, reasons, writer)?;
-    write_table(&captions.totals, totals, writer)?;
-    write_foot(day.opening, None, None, &day.origin, rows, writer)
-}
-
-// All records of an input, those after the last close looked at closely.
-fn play_open(alloc: Global, opening: Day, input: Input, days: &Days) -> Result<Played, Fault>
-    ensures { IfOk result (ComesTo opening (last_number days.now.closes.items) Watched.Nothing (take days.now.records (lines_of input))) }
-{
-    let from = match days.closes.last() {
-        Some(close) => close.number,
-        None => 0,
-    };
-    Ok(play_first(alloc, input, opening, from, days.records, &Watched::Nothing)?)
-}
-
-// The day that is open after all records of an input.
-fn open_day(alloc: Global, opening: Day, input: Input) -> Result<OpenDay, Fault>
-    ensures { IfOk result (IsOpenDay opening input) }
-{
-    let days = days_of(alloc, input.copied(alloc)?, opening)?;
-    let origin = origin_of(alloc, input.copied(alloc)?)?;
-    let played = play_open(alloc, opening, input, &days)?;
-    Ok(OpenDay {
-        opening,
-        played,
-        origin,
-    })
-}
-
-/// The page of the day that is open after all records of an input, those after the last close looked at closely.
-pub(crate) fn today_page(alloc: Global, opening: Day, input: Input) -> Result<Vec<u8>, Fault>
-    ensures { IfOk result (λ v. IsTodayPage opening input v.items) }
-{
-    let day = open_day(alloc, opening, input)?;
-    let reasons = counts_of(alloc, day.played.survey.reasons.as_slice())?;
-    let totals = spans_of(&day.played.survey);
-    let mut page = Vec::new(alloc);
-    match write_text(&CAPTIONS, &day, reasons.as_slice(), &totals, &mut page) {
-        Ok(()) => Ok(page),
-        Err(_) => Err(Fault::NoMemory),
-    }
+    let captions = &day_captions();
+    let survey = &source.played.survey;
+    let mut page = Page::new(alloc);
+    write_head(&source.played, &mut page.text)?;
+    write_exceptions(alloc, captions, survey, &mut page)?;
+    write_totals(captions, survey, &mut page)?;
+    let rows = page.rows;
+    write_foot(source, None, About::All, rows, &mut page.text)?;
+    Ok(page.text)
 }

@@ -1,16 +1,12 @@
 -- One text after another.
--- For `write_table` of table.rt, `cut`, `write_form` and `write_markup` of piece.rt, and for pages.
+-- For `write_cell`, `write_line`, `write_some` and `write_table` of table.rt, `cut` and `write_form` of piece.rt, and for pages.
 use Rattle.cns_tables.specs.declared.piece.Piece.{Piece}
-use Rattle.cns_tables.proofs.Common.{append_assoc, ◌+◌, drop, map, piece_text, suc, nat_tests, ◌≢◌, ◌<◌, get_or, [], ◌∷◌, refl, ◌≡◌, ◌==◌, ℕ, List, ◌++◌, Option, Result, Ok, Err, OnOk, length, true, false, arith, none_of, some_of, Appends, Keeps, Appends-trans, Writes, filled, drop_more, table_text}
+use Rattle.cns_tables.proofs.Common.{append_assoc, ◌+◌, drop, map, piece_text, suc, nat_tests, ◌≢◌, ◌<◌, get_or, [], ◌∷◌, refl, ◌≡◌, ◌==◌, ℕ, List, ◌++◌, Result, Ok, Err, OnOk, ap, ◌∙◌, length, true, false, arith, none_of, some_of, filled, drop_more, table_text}
 use Rattle.cns_tables.specs.declared.table.Table.{Table}
 
--- what a call wrote
-pub written : {T E : Type 0} (old new : Option (List ℕ)) (text : List ℕ) (r : Result T E) → Writes old new text r → OnOk r (Appends old new text)
-written old new text r h1 = grind arith
-
--- a text that was written, and then what the last call wrote
-pub after : {T E : Type 0} (old mid new : Option (List ℕ)) (a b : List ℕ) (r : Result T E) → Appends old mid a → OnOk r (Appends mid new b) → OnOk r (Appends old new (a ++ b))
-after old mid new a b (Ok x) first last = Appends-trans old mid new a b first last
+-- a text that was added, and then what the last call added
+pub after : {T E : Type 0} (old mid new a b : List ℕ) (r : Result T E) → mid ≡ old ++ a → OnOk r (new ≡ mid ++ b) → OnOk r (new ≡ old ++ (a ++ b))
+after old mid new a b (Ok x) first last = last ∙ ap (λ xs. xs ++ b) first ∙ append_assoc old a b
 after old mid new a b (Err e) first last = tt
 
 -- a table with no rows
@@ -22,10 +18,6 @@ no_rows row t xs h1 = grind arith
 pub some_rows : {X : Type 0} (row : X → List ℕ) (t : Table) (xs : List X) → (length xs == 0) ≡ false → table_text row t xs ≡ some_of row t xs
 unfolding table_text
 some_rows row t xs h1 = grind arith
-
--- a text that was written, and handed on then
-pub kept : {T E : Type 0} (old mid new : Option (List ℕ)) (text : List ℕ) (r : Result T E) → Appends old mid text → OnOk r (Keeps mid new) → OnOk r (Appends old new text)
-kept old mid new text r h1 h2 = grind arith
 
 -- a form whose blanks are filled
 pub no_text : (form : List ℕ) → filled form [] ≡ form
@@ -45,8 +37,9 @@ unfolding filled
 first_blank [] rest t ts h = refl
 first_blank (b ∷ front) rest t ts h = grind (arith, nat_tests, h 0 (omega arith), first_blank front rest t ts (λ i lt. h (suc i) (omega arith)))
 
--- one piece more is written
-pub filled_more : (all done form front rest : List ℕ) (ps : List Piece) (i : ℕ) (p : Piece) → i < length ps → p ≡ get_or ps i p
+-- one piece more is added
+pub filled_more : (all old mid new form front rest : List ℕ) (ps : List Piece) (i : ℕ) (p : Piece) → i < length ps → p ≡ get_or ps i p
     → ((t : List ℕ) (ts : List (List ℕ)) → filled form (t ∷ ts) ≡ front ++ (t ++ filled rest ts))
-    → all ≡ done ++ filled form (map piece_text (drop i ps)) → all ≡ (done ++ (front ++ piece_text p)) ++ filled rest (map piece_text (drop (i + 1) ps))
-filled_more all done form front rest ps i p lt at cut is = grind (arith, drop_more ps i p lt, cut (piece_text p) (map piece_text (drop (i + 1) ps)), append_assoc)
+    → all ≡ old ++ filled form (map piece_text (drop i ps)) → mid ≡ old ++ front → new ≡ mid ++ piece_text p
+    → all ≡ new ++ filled rest (map piece_text (drop (i + 1) ps))
+filled_more all old mid new form front rest ps i p lt at cut is first then = grind (arith, drop_more ps i p lt, cut (piece_text p) (map piece_text (drop (i + 1) ps)), append_assoc)

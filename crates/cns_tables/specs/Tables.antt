@@ -1,8 +1,9 @@
 -- The texts of tables.
-use Rattle.std.specs.Prelude.{ℕ, List, [], ◌∷◌, ◌++◌}
-use Rattle.std.specs.List.{flat_map}
+use Rattle.std.specs.Prelude.{◌≡◌, ℕ, ◌+◌, ◌-◌, ◌^◌, List, [], ◌∷◌, ◌++◌, length, min}
+use Rattle.std.specs.List.{flat_map, fold}
 use Rattle.cns_tables.specs.Pieces.{filled, piece_text}
 use Rattle.cns_tables.specs.declared.piece.Piece.{Piece}
+use Rattle.cns_tables.specs.declared.table.Page.{Page}
 use Rattle.cns_tables.specs.declared.table.Table.{Table}
 use Rattle.cns_tables.specs.declared.table.TheConstants.{BEGIN, CELL, COLUMN, END, NONE, ROWS}
 
@@ -36,7 +37,7 @@ caption_of t = filled BEGIN.now (t.id.now ∷ t.id.now ∷ t.title.now ∷ t.tit
 
 -- the names of its columns
 abbrev pub columns_of : Table → List ℕ
-columns_of t = flat_map (λ c. COLUMN.now ++ c.now) t.columns.now
+columns_of t = flat_map (λ c. filled COLUMN.now (c.now ∷ [])) t.columns.now
 
 -- one with some rows
 abbrev pub some_of : {X : Type 0} → (X → List ℕ) → Table → List X → List ℕ
@@ -46,3 +47,22 @@ some_of row t xs = caption_of t ++ (columns_of t ++ (ROWS.now ++ (flat_map row x
 unfoldable pub table_text : {X : Type 0} → (X → List ℕ) → Table → List X → List ℕ
 table_text row t [] = none_of t
 table_text row t (x ∷ xs) = some_of row t (x ∷ xs)
+
+-- ---- pages
+
+-- a table that is shown: its text, and how many rows it has
+abbrev pub shown : {X : Type 0} → (X → List ℕ) → Table → List X → List ℕ × ℕ
+shown row t xs = (table_text row t xs, length xs)
+
+-- the texts of tables, one after another
+abbrev pub texts : List (List ℕ × ℕ) → List ℕ
+texts ts = flat_map (λ t. t.0) ts
+
+-- with the rows of tables more, as far as the count goes
+abbrev pub and_rows : ℕ → List (List ℕ × ℕ) → ℕ
+and_rows n ts = fold (λ n t. min (n + t.1) (2 ^ 64 - 1)) n ts
+
+-- tables were added to a page
+pub record HasMore (ts : List (List ℕ × ℕ)) (old new : Page) : Type 0 where
+  pub text : new.text.items ≡ old.text.items ++ texts ts
+  pub rows : new.rows ≡ and_rows old.rows ts

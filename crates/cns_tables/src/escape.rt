@@ -1,12 +1,10 @@
 // A stranger's text in a page.
-ghost use Rattle.std.specs.Prelude.{◌≡◌, ◌∷◌, [], true};
+ghost use Rattle.std.specs.Prelude.{◌≡◌, ◌∷◌, [], ◌++◌, OnOk, true};
 ghost use Rattle.std.specs.List.{list_all};
 ghost use Rattle.std.specs.Option.{option_map_or};
-ghost use Rattle.cns_units.specs.Output.{Writes};
 ghost use Rattle.cns_tables.specs.Escape.{escaped, escaped_byte, is_control, is_plain};
 
-use cns_units::{WriteFault, write_bytes};
-use std::io::Write;
+use std::alloc::AllocError;
 
 // Whether a byte is one of a control character. Line ends stay.
 fn is_control(byte: u8) -> bool
@@ -36,26 +34,26 @@ fn reference_of(byte: u8) -> Option<&'static [u8]>
     }
 }
 
-fn write_byte<W: Write>(byte: u8, writer: &mut W) -> Result<(), WriteFault>
-    ensures { Writes (W.contents writer.old) (W.contents writer.new) (escaped_byte byte) result }
+fn write_byte(byte: u8, out: &mut Vec<u8>) -> Result<(), AllocError>
+    ensures { OnOk result (out.new.items ≡ out.old.items ++ escaped_byte byte) }
 {
     match reference_of(byte) {
-        Some(reference) => write_bytes(reference, writer),
-        None => write_bytes(&[byte], writer),
+        Some(reference) => out.extend_from_slice(reference),
+        None => out.extend_from_slice(&[byte]),
     }
 }
 
-/// Writes a text so that none of it can be taken for markup: `&`, `<`, `>` and quotes become character references, and so
+/// Adds a text so that none of it can be taken for markup: `&`, `<`, `>` and quotes become character references, and so
 /// do control characters but for line ends, as U+FFFD. The other bytes stay.
 ///
-/// Where the writer fails or takes no byte it answers `WriteFault`, and a prefix of that text was written.
-#[tactic(auto, using(crate::proofs::EscapeLemmas::text_plain))]
-pub fn write_escaped<W: Write>(text: &[u8], writer: &mut W) -> Result<(), WriteFault>
-    ensures text { Writes (W.contents writer.old) (W.contents writer.new) (escaped text.now) result }
+/// `AllocError` where there is no memory; some of that text may be there then.
+#[tactic(auto, using(crate::proofs::EscapeLemmas::text_plain, std::proofs::lemmas::Grind::common_steps))]
+pub fn write_escaped(text: &[u8], out: &mut Vec<u8>) -> Result<(), AllocError>
+    ensures text { OnOk result (out.new.items ≡ out.old.items ++ escaped text.now) }
     ensures plain { list_all is_plain (escaped text.now) ≡ true }
 {
     for byte in text {
-        write_byte(*byte, writer)?;
+        write_byte(*byte, out)?;
     }
     Ok(())
 }

@@ -1,15 +1,14 @@
 // The pieces that a page is written of.
 ghost use Rattle.std.specs.Prelude.{◌≡◌, ◌++◌, ◌∷◌, List, ℕ, map, pos, OnOk};
 ghost use Rattle.std.specs.Fmt.{decimal};
-ghost use Rattle.std.specs.Io.KnownBytes.{Appends, Keeps};
-ghost use Rattle.cns_units.specs.Output.{Writes};
+ghost use Rattle.cns_units.specs.Day.{day_text};
 ghost use Rattle.cns_tables.specs.Pieces.{filled, piece_text};
 
 use crate::escape::write_escaped;
 use crate::grouped::{write_amount, write_count, write_rate, write_signed};
-use cns_units::{Cents, Cusip, Day, Rate, WriteFault, write_bytes, write_day};
+use cns_units::{Cents, Cusip, Day, Rate, write_day};
 use itoa::Buffer;
-use std::io::Write;
+use std::alloc::AllocError;
 
 /// A piece of a page.
 #[derive(Clone, Copy)]
@@ -48,46 +47,52 @@ pub fn cents_of(cents: u64) -> Cents
     Cents::of(i128::from(cents))
 }
 
-fn write_number<W: Write>(number: u64, writer: &mut W) -> Result<(), WriteFault>
-    ensures { Writes (W.contents writer.old) (W.contents writer.new) (decimal number) result }
+fn write_number(number: u64, out: &mut Vec<u8>) -> Result<(), AllocError>
+    ensures { OnOk result (out.new.items ≡ out.old.items ++ decimal number) }
 {
     let mut buffer = Buffer::new();
-    write_bytes(buffer.format(number).as_bytes(), writer)
+    out.extend_from_slice(buffer.format(number).as_bytes())
 }
 
-/// Writes a piece.
-///
-/// Where the writer fails or takes no byte it answers `WriteFault`, and a prefix of that text was written.
-pub fn write_piece<W: Write>(piece: &Piece<'_>, writer: &mut W) -> Result<(), WriteFault>
-    ensures { Writes (W.contents writer.old) (W.contents writer.new) (piece_text piece.now) result }
+fn write_date(day: Day, out: &mut Vec<u8>) -> Result<(), AllocError>
+    ensures { OnOk result (out.new.items ≡ out.old.items ++ day_text day) }
 {
-    match piece {
-        Piece::Markup(markup) => write_bytes(markup.as_bytes(), writer),
-        Piece::Text(text) => write_escaped(text.as_bytes(), writer),
-        Piece::Issue(issue) => write_escaped(issue.bytes(), writer),
-        Piece::Number(number) => write_number(*number, writer),
-        Piece::Count(number) => write_count(u128::from(*number), writer),
-        Piece::Signed(number) => write_signed(i128::from(*number), writer),
-        Piece::Position(Some(number)) => write_signed(i128::from(*number), writer),
-        Piece::Position(None) => write_bytes(b"none", writer),
-        Piece::Amount(cents) => write_amount(cents.value(), writer),
-        Piece::Price(Some(price)) => write_amount(i128::from(*price), writer),
-        Piece::Price(None) => write_bytes(b"not listed", writer),
-        Piece::Rate(rate) => write_rate(u128::from(rate.value()), writer),
-        Piece::Booked(true) => write_bytes(b"booked", writer),
-        Piece::Booked(false) => write_bytes(b"pending", writer),
-        Piece::Date(day) => write_day(*day, writer),
+    match write_day(day, out) {
+        Ok(()) => Ok(()),
+        Err(_) => Err(AllocError),
     }
 }
 
-/// Writes markup of the page itself.
+/// Adds a piece.
 ///
-/// Where the writer fails or takes no byte it answers `WriteFault`, and some of it was written.
-#[tactic(auto, using(crate::proofs::Written::written))]
-pub fn write_markup<W: Write>(markup: &'static str, writer: &mut W) -> Result<(), WriteFault>
-    ensures { OnOk result (Appends (W.contents writer.old) (W.contents writer.new) markup.now) }
+/// `AllocError`, here and below, where there is no memory; some of what was to be added may be there then.
+pub fn write_piece(piece: &Piece<'_>, out: &mut Vec<u8>) -> Result<(), AllocError>
+    ensures { OnOk result (out.new.items ≡ out.old.items ++ piece_text piece.now) }
 {
-    write_bytes(markup.as_bytes(), writer)
+    match piece {
+        Piece::Markup(markup) => out.extend_from_slice(markup.as_bytes()),
+        Piece::Text(text) => write_escaped(text.as_bytes(), out),
+        Piece::Issue(issue) => write_escaped(issue.bytes(), out),
+        Piece::Number(number) => write_number(*number, out),
+        Piece::Count(number) => write_count(u128::from(*number), out),
+        Piece::Signed(number) => write_signed(i128::from(*number), out),
+        Piece::Position(Some(number)) => write_signed(i128::from(*number), out),
+        Piece::Position(None) => out.extend_from_slice(b"none"),
+        Piece::Amount(cents) => write_amount(cents.value(), out),
+        Piece::Price(Some(price)) => write_amount(i128::from(*price), out),
+        Piece::Price(None) => out.extend_from_slice(b"not listed"),
+        Piece::Rate(rate) => write_rate(u128::from(rate.value()), out),
+        Piece::Booked(true) => out.extend_from_slice(b"booked"),
+        Piece::Booked(false) => out.extend_from_slice(b"pending"),
+        Piece::Date(day) => write_date(*day, out),
+    }
+}
+
+/// Adds markup of the page itself.
+pub fn write_markup(markup: &'static str, out: &mut Vec<u8>) -> Result<(), AllocError>
+    ensures { OnOk result (out.new.items ≡ out.old.items ++ markup.now) }
+{
+    out.extend_from_slice(markup.as_bytes())
 }
 
 // What stands before the first blank of a form, and after it; where it has none, all of it, and nothing.
@@ -100,33 +105,21 @@ fn cut(form: &'static str) -> (&'static str, &'static str)
     }
 }
 
-/// Writes a form with a piece in each of its blanks, in order. A blank is a `_`. Each piece is written: those for which there is no
+/// Adds a form with a piece in each of its blanks, in order. A blank is a `_`. Each piece is there: those for which there is no
 /// blank stand at the end, and blanks for which there is no piece stay.
-///
-/// Where the writer fails or takes no byte it answers `WriteFault`, and some of that text was written.
-pub fn write_form<W: Write>(
+pub fn write_form(
     form: &'static str,
     pieces: &[Piece<'_>],
-    writer: &mut W,
-) -> Result<(), WriteFault>
-    ensures { OnOk result (Appends (W.contents writer.old) (W.contents writer.new) (filled form.now (map piece_text pieces.now))) }
+    out: &mut Vec<u8>,
+) -> Result<(), AllocError>
+    ensures { OnOk result (out.new.items ≡ out.old.items ++ filled form.now (map piece_text pieces.now)) }
 {
     let mut rest = form;
     for piece in pieces {
         let (before, after) = cut(rest);
-        write_markup(before, writer)?;
-        write_piece(piece, writer)?;
+        write_markup(before, out)?;
+        write_piece(piece, out)?;
         rest = after;
     }
-    write_markup(rest, writer)
-}
-
-/// Flushes a writer. `WriteFault` where it cannot be flushed.
-pub fn hand_on<W: Write>(writer: &mut W) -> Result<(), WriteFault>
-    ensures { OnOk result (Keeps (W.contents writer.old) (W.contents writer.new)) }
-{
-    match writer.flush() {
-        Ok(()) => Ok(()),
-        Err(_) => Err(WriteFault),
-    }
+    write_markup(rest, out)
 }

@@ -1,12 +1,19 @@
-// The tables of a page.
-ghost use Rattle.std.specs.Prelude.{◌≡◌, ◌++◌, List, ℕ, OnOk};
-ghost use Rattle.std.specs.Io.KnownBytes.{Appends};
+// A page, and its tables.
+ghost use Rattle.std.specs.Prelude.{◌≡◌, ◌∷◌, [], ◌++◌, List, ℕ, OnOk};
 ghost use Rattle.std.specs.List.{flat_map};
-ghost use Rattle.cns_tables.specs.Tables.{caption_of, cell_of, cells_of, columns_of, none_of, row_of, some_of, table_text};
+ghost use Rattle.cns_tables.specs.Tables.{HasMore, caption_of, cell_of, cells_of, columns_of, none_of, row_of, shown, some_of, table_text};
 
 use crate::piece::{Piece, write_form, write_markup, write_piece};
-use cns_units::WriteFault;
-use std::io::Write;
+use std::alloc::{AllocError, Global};
+
+/// A page as it is made.
+#[derive(Drop)]
+pub struct Page {
+    /// Its bytes so far.
+    pub text: Vec<u8>,
+    /// How many rows its tables have so far. The count stops at 2^64 - 1.
+    pub rows: u64,
+}
 
 /// A table of a page.
 #[derive(Clone, Copy)]
@@ -25,18 +32,16 @@ pub struct Table {
 pub trait TableRow {
     ghost text: { Self → List ℕ };
 
-    /// Writes the row.
-    ///
-    /// Where the writer fails or takes no byte it answers `WriteFault`, and some of the row was written.
-    fn write_row<W: Write>(&self, writer: &mut W) -> Result<(), WriteFault>
-        ensures { OnOk result (Appends (W.contents writer.old) (W.contents writer.new) (text self.now)) };
+    /// Adds the row.
+    fn write_row(&self, out: &mut Vec<u8>) -> Result<(), AllocError>
+        ensures { OnOk result (out.new.items ≡ out.old.items ++ text self.now) };
 }
 
 /// What stands before a row.
 pub const ROW: &str = "<tr><th scope=row>";
 
-/// What stands before another cell than the first.
-pub const CELL: &str = "<td>";
+// What stands before another cell than the first.
+const CELL: &str = "<td>";
 
 // What stands for a table that has no rows: id, id, title, and the sentence.
 const NONE: &str = "<section aria-labelledby=_>
@@ -54,82 +59,73 @@ const BEGIN: &str = "<section aria-labelledby=_>
 <caption>_</caption>
 <thead><tr>";
 
-const COLUMN: &str = "<th scope=col>";
+const COLUMN: &str = "<th scope=col>_";
 
 const ROWS: &str = "\n</thead><tbody>\n";
 
 const END: &str = "</table>\n</div>\n</div>\n</section>\n";
 
-// Writes other cells of a row.
-fn write_cells<W: Write>(pieces: &[Piece<'_>], writer: &mut W) -> Result<(), WriteFault>
-    ensures { OnOk result (Appends (W.contents writer.old) (W.contents writer.new) (cells_of pieces.now)) }
+// Adds other cells of a row.
+#[tactic(auto, using(std::proofs::lemmas::Grind::common_steps))]
+fn write_cells(pieces: &[Piece<'_>], out: &mut Vec<u8>) -> Result<(), AllocError>
+    ensures { OnOk result (out.new.items ≡ out.old.items ++ cells_of pieces.now) }
 {
     for piece in pieces {
-        write_cell(piece, writer)?;
+        write_cell(piece, out)?;
     }
     Ok(())
 }
 
-#[tactic(auto, using(crate::proofs::Written::after, crate::proofs::Written::written))]
-fn write_cell<W: Write>(piece: &Piece<'_>, writer: &mut W) -> Result<(), WriteFault>
-    ensures { OnOk result (Appends (W.contents writer.old) (W.contents writer.new) (cell_of piece.now)) }
+#[tactic(auto, using(crate::proofs::Written::after))]
+fn write_cell(piece: &Piece<'_>, out: &mut Vec<u8>) -> Result<(), AllocError>
+    ensures { OnOk result (out.new.items ≡ out.old.items ++ cell_of piece.now) }
 {
-    write_markup(CELL, writer)?;
-    write_piece(piece, writer)
+    write_markup(CELL, out)?;
+    write_piece(piece, out)
 }
 
-/// Writes a row: what stands before it, its first cell, and the other cells.
-///
-/// Where the writer fails or takes no byte it answers `WriteFault`, and some of the row was written.
+/// Adds a row: what stands before it, its first cell, and the other cells.
 #[tactic(auto, using(crate::proofs::Written::after))]
-pub fn write_line<W: Write>(
+pub fn write_line(
     head: &'static str,
     first: &Piece<'_>,
     others: &[Piece<'_>],
-    writer: &mut W,
-) -> Result<(), WriteFault>
-    ensures { OnOk result (Appends (W.contents writer.old) (W.contents writer.new) (row_of head.now first.now others.now)) }
+    out: &mut Vec<u8>,
+) -> Result<(), AllocError>
+    ensures { OnOk result (out.new.items ≡ out.old.items ++ row_of head.now first.now others.now) }
 {
-    write_markup(head, writer)?;
-    write_piece(first, writer)?;
-    write_cells(others, writer)?;
-    write_markup("\n", writer)
+    write_markup(head, out)?;
+    write_piece(first, out)?;
+    write_cells(others, out)?;
+    write_markup("\n", out)
 }
 
-/// Writes rows, one after another.
-///
-/// Where the writer fails or takes no byte it answers `WriteFault`, and some of them was written.
-#[tactic(auto, using(cns_units::proofs::Parts::parts_more))]
-pub fn write_rows<T: TableRow, W: Write>(rows: &[T], writer: &mut W) -> Result<(), WriteFault>
-    ensures { OnOk result (Appends (W.contents writer.old) (W.contents writer.new) (flat_map T.text rows.now)) }
+// Adds rows, one after another.
+#[tactic(auto, using(std::proofs::lemmas::Grind::common_steps))]
+fn write_rows<T: TableRow>(rows: &[T], out: &mut Vec<u8>) -> Result<(), AllocError>
+    ensures { OnOk result (out.new.items ≡ out.old.items ++ flat_map T.text rows.now) }
 {
     for row in rows {
-        row.write_row(writer)?;
+        row.write_row(out)?;
     }
     Ok(())
 }
 
-#[tactic(auto, using(crate::proofs::Written::after))]
-fn write_column<W: Write>(column: &'static str, writer: &mut W) -> Result<(), WriteFault>
-    ensures { OnOk result (Appends (W.contents writer.old) (W.contents writer.new) (COLUMN.now ++ column.now)) }
-{
-    write_markup(COLUMN, writer)?;
-    write_markup(column, writer)
-}
-
-fn write_columns<W: Write>(table: &Table, writer: &mut W) -> Result<(), WriteFault>
-    ensures { OnOk result (Appends (W.contents writer.old) (W.contents writer.new) (columns_of table.now)) }
+// Adds the names of the columns.
+#[tactic(auto, using(std::proofs::lemmas::Grind::common_steps))]
+fn write_columns(table: &Table, out: &mut Vec<u8>) -> Result<(), AllocError>
+    ensures { OnOk result (out.new.items ≡ out.old.items ++ columns_of table.now) }
 {
     for column in table.columns {
-        write_column(column, writer)?;
+        write_form(COLUMN, &[Piece::Markup(column)], out)?;
     }
     Ok(())
 }
 
-// Writes a table that has no rows.
+// Adds a table that has no rows.
 #[tactic(auto, unfolding(crate::specs::Tables::none_of))]
-fn write_none<W: Write>(table: &Table, writer: &mut W) -> Result<(), WriteFault>
-    ensures { OnOk result (Appends (W.contents writer.old) (W.contents writer.new) (none_of table.now)) }
+fn write_none(table: &Table, out: &mut Vec<u8>) -> Result<(), AllocError>
+    ensures { OnOk result (out.new.items ≡ out.old.items ++ none_of table.now) }
 {
     let pieces = [
         Piece::Markup(table.id),
@@ -137,13 +133,13 @@ fn write_none<W: Write>(table: &Table, writer: &mut W) -> Result<(), WriteFault>
         Piece::Markup(table.title),
         Piece::Markup(table.none),
     ];
-    write_form(NONE, &pieces, writer)
+    write_form(NONE, &pieces, out)
 }
 
-// Writes the title and what stands before the columns.
+// Adds the title and what stands before the columns.
 #[tactic(auto, unfolding(crate::specs::Tables::caption_of))]
-fn write_caption<W: Write>(table: &Table, writer: &mut W) -> Result<(), WriteFault>
-    ensures { OnOk result (Appends (W.contents writer.old) (W.contents writer.new) (caption_of table.now)) }
+fn write_caption(table: &Table, out: &mut Vec<u8>) -> Result<(), AllocError>
+    ensures { OnOk result (out.new.items ≡ out.old.items ++ caption_of table.now) }
 {
     let pieces = [
         Piece::Markup(table.id),
@@ -152,39 +148,50 @@ fn write_caption<W: Write>(table: &Table, writer: &mut W) -> Result<(), WriteFau
         Piece::Markup(table.title),
         Piece::Markup(table.caption),
     ];
-    write_form(BEGIN, &pieces, writer)
+    write_form(BEGIN, &pieces, out)
 }
 
-// Writes the table of some rows.
+// Adds the table of some rows.
 #[tactic(auto, using(crate::proofs::Written::after))]
-fn write_some<T: TableRow, W: Write>(
-    table: &Table,
-    rows: &[T],
-    writer: &mut W,
-) -> Result<(), WriteFault>
-    ensures { OnOk result (Appends (W.contents writer.old) (W.contents writer.new) (some_of T.text table.now rows.now)) }
+fn write_some<T: TableRow>(table: &Table, rows: &[T], out: &mut Vec<u8>) -> Result<(), AllocError>
+    ensures { OnOk result (out.new.items ≡ out.old.items ++ some_of T.text table.now rows.now) }
 {
-    write_caption(table, writer)?;
-    write_columns(table, writer)?;
-    write_markup(ROWS, writer)?;
-    write_rows(rows, writer)?;
-    write_markup(END, writer)
+    write_caption(table, out)?;
+    write_columns(table, out)?;
+    write_markup(ROWS, out)?;
+    write_rows(rows, out)?;
+    write_markup(END, out)
 }
 
-/// Writes a table with its rows in order, or what stands there where it has none.
-///
-/// Where the writer fails or takes no byte it answers `WriteFault`, and some of that text was written.
+// Adds a table with its rows in order, or what stands there where it has none.
 #[tactic(auto, using(crate::proofs::Written::no_rows, crate::proofs::Written::some_rows))]
-pub fn write_table<T: TableRow, W: Write>(
-    table: &Table,
-    rows: &[T],
-    writer: &mut W,
-) -> Result<(), WriteFault>
-    ensures { OnOk result (Appends (W.contents writer.old) (W.contents writer.new) (table_text T.text table.now rows.now)) }
+fn write_table<T: TableRow>(table: &Table, rows: &[T], out: &mut Vec<u8>) -> Result<(), AllocError>
+    ensures { OnOk result (out.new.items ≡ out.old.items ++ table_text T.text table.now rows.now) }
 {
     if rows.is_empty() {
-        write_none(table, writer)
+        write_none(table, out)
     } else {
-        write_some(table, rows, writer)
+        write_some(table, rows, out)
+    }
+}
+
+impl Page {
+    /// Nothing yet. It takes no memory.
+    pub fn new(alloc: Global) -> Page
+        ensures text { result.text.items ≡ [] }
+        ensures rows { result.rows ≡ 0 }
+    {
+        Page {
+            text: Vec::new(alloc),
+            rows: 0,
+        }
+    }
+
+    /// Adds a table, and counts its rows.
+    pub fn table<T: TableRow>(&mut self, table: &Table, rows: &[T]) -> Result<(), AllocError>
+        ensures { OnOk result (HasMore (shown T.text table.now rows.now ∷ []) self.old self.new) }
+    {
+        self.rows = self.rows.saturating_add(rows.len() as u64);
+        write_table(table, rows, &mut self.text)
     }
 }

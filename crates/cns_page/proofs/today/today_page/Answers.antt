@@ -1,15 +1,14 @@
 use Rattle.cns_page.proofs.today.today_page.Goals as goal
 
-pub returns-in-Ok : goal.returns-in-Ok
-returns-in-Ok c = record {
-  day = _;
-  is_day = c.in_ok-day.ensures;
-  reasons = _;
-  counted = rw c.as_slice.ensures.value at c.in_ok-reasons.ensures;
-  totals = _;
-  spans = c.spans_of-totals.ensures;
-  exceptions_table = _;
-  reasons_table = _;
-  totals_table = _;
-  shown = rw (c.as_slice-2.ensures.value, c.new-page.ensures.items) at c.in-Ok.ensures;
+pub returns : goal.returns
+returns c = record {
+  captions = _;
+  start = _;
+  excepted = _;
+  whole = _;
+  head = rw c.new-page.ensures.text at c.in_ok-write_head.ensures;
+  none = c.new-page.ensures.rows;
+  exceptions = c.in_ok-write_exceptions.ensures;
+  totals = c.in_ok-write_totals.ensures;
+  foot = c.in_ok-write_foot.ensures;
 }

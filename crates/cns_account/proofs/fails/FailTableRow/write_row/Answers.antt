@@ -1,4 +1,4 @@
 use Rattle.cns_account.proofs.fails.FailTableRow.write_row.Goals as goal
 
 pub returns : goal.returns
-returns g c = rw c.fail_cells-cells.ensures at c.write_line.ensures
+returns c = rw c.fail_cells-cells.ensures at c.write_line.ensures

@@ -1,0 +1,5 @@
+use Rattle.cns_page.proofs.Common.{arith, common_steps}
+use Rattle.cns_page.proofs.account.fails_of.Goals as goal
+
+pub loop-short-preserved : goal.loop-short-preserved
+loop-short-preserved c = grind (arith, common_steps)
