@@ -93,7 +93,7 @@ fn keep(alloc: Global, blocks: &mut VecDeque<Rc<Vec<u8>>>, block: Vec<u8>) -> Re
     Ok(())
 }
 
-// The next bytes of a reader: about a block of them, or all that are left. None where it has no more.
+// The next bytes of a reader: about a block of them, or all that are left; none where it has no more.
 fn read_block<I: Read>(alloc: Global, reader: &mut I) -> Result<Vec<u8>, ReplayFault>
     ensures bytes { IfOk result (λ b. Consumes (I.remaining reader.old) (I.remaining reader.new) b.items) }
     ensures end { IfOk result (λ b. b.items ≡ [] → IsAtEnd (I.remaining reader.new)) }

@@ -50,8 +50,8 @@ fn make_of<R: AllocGlobal + Files<File = File>, I: Read, O: Write>(
 /// Runs the program on the words of its line, its name first, and tells what writing its line to `errors` came to.
 ///
 /// Status 0: the page that the words ask for is written and flushed, or the pages stand in the folder, and nothing went to `errors`.
-/// 1: a fault, whose line went to `errors`; what was written before stands in `output`. 2: the line is refused, or a date is none, so nothing was read, nothing went to
-/// `output`, and the usage line to `errors`.
+/// 1: a fault, whose line went to `errors`; what was written before stands in `output`. 2: the line is refused, or a date is none, so
+/// nothing was read, nothing went to `output`, and the usage line to `errors`.
 pub fn run_words<R: AllocGlobal + Files<File = File>, S: AsStr, I: Read, O: Write, E: Write>(
     rt: &R,
     words: &[S],
