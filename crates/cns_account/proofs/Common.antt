@@ -32,7 +32,8 @@ pub use Rattle.cns_account.specs.Fails.{issues_behind}
 unfoldable pub use Rattle.cns_account.specs.Laws.{closes}
 pub use Rattle.cns_account.specs.Laws.{AddUp, IsLineInRange, MovesAddUp, PlacesAreWhole, day_closed, is_line_at, is_moved, last_of, of_causes}
 pub use Rattle.cns_account.specs.Moves.{AreMoves, is_within, moved_at, of_cause, settled_by, unmoved, with_entry, with_line, with_more, with_taken, with_trade}
-pub use Rattle.cns_account.specs.Past.{IsGathered, accepted_of, date_told, looked_at}
+pub use Rattle.cns_account.specs.Past.{date_told}
+pub use Rattle.cns_history.specs.Entries.{accepted_of, looked_at}
 unfoldable pub use Rattle.cns_account.specs.Rows.{moved, valued}
 pub use Rattle.cns_account.specs.Common.{Activity, Booking, Command, Key, Row, HistoryLine, Moved, Moves, Taken}
 pub use Rattle.cns_history.specs.declared.play.Watched.{Watched}

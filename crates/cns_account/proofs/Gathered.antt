@@ -1,5 +1,5 @@
 -- Lists and maps that are gathered item by item, of lines or of a history.
--- For `add_entry` and `add_line` of day_moves.rt; `add_side` of due.rt in cns_day, `add` of issues.rt in cns_day; `first` of sought.rt in cns_exceptions, `live_notices` of notices.rt in cns_day.
+-- For `add_entry` and `add_line` of day_moves.rt; `add_side` of due.rt in cns_day, `add` of issues.rt in cns_day; `note_accepted` of accepted.rt in cns_exceptions, `live_notices` of notices.rt in cns_day.
 use Rattle.cns_account.proofs.Common.{◌≡◌, ◌∙◌, sym, ap, ℕ, ◌+◌, ◌<◌, List, [], ◌∷◌, ◌++◌, Option, take, take-suc, cond, Some, unwrap_or, is_eq, Ordering, arith, equal, suc, ◌-◌, ◌^◌, ◌≤◌, None, reverse, slice_get, take_all, Taken, entry_at, looked_at}
 use Rattle.std.proofs.lemmas.Map.Lookups.{CmpEqualImpliesEq}
 use Rattle.std.proofs.lemmas.Option.{get_or_from_slice_get, slice_get_within, slice_get_cases}

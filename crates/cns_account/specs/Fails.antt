@@ -1,5 +1,5 @@
 -- Since when an account's shorts are short, and what the price did to them.
-use Rattle.std.specs.Prelude.{ℕ, ℤ, pos, ◌-◌, ◌+ℤ◌, int_lt, Bool, false, ◌||◌, List, [], ◌∷◌, ◌++◌, drop, length, slice_get, unwrap_or, if◌then◌else◌}
+use Rattle.std.specs.Prelude.{ℕ, ℤ, pos, ◌-◌, ◌+ℤ◌, int_lt, Bool, false, ◌||◌, List, [], ◌∷◌, ◌++◌, drop, length, reverse, slice_get, unwrap_or, if◌then◌else◌}
 use Rattle.cns_account.specs.Common.{int_wrap, w128, fold, option_map_or, Account, Cusip, Day, DaySheet, State, journal_of, same_issue, sheet_on, Exchange, Row, row_of, ROW, worth, Past, Piece}
 use Rattle.cns_sheets.specs.Search.{row_at}
 use Rattle.cns_account.specs.Rows.{moved}
@@ -24,7 +24,7 @@ with_exchange cs x = if is_among x.successor cs then cs ++ x.old ∷ [] else cs
 -- an issue, with those that were exchanged for it, directly or by further exchanges: back from the newest exchange, since none is of
 -- an issue that was retired before
 abbrev pub issues_behind : List Exchange → Cusip → List Cusip
-issues_behind xs c = fold with_exchange (c ∷ []) xs
+issues_behind xs c = fold with_exchange (c ∷ []) (reverse xs)
 
 -- ---- what the price did
 

@@ -8,7 +8,8 @@ use Rattle.cns_feed.specs.Output.{state_after_line}
 use Rattle.cns_feed.specs.Replay.{blank_log, log_after}
 use Rattle.cns_history.specs.declared.play.Watched.{Watched}
 use Rattle.cns_account.specs.Moves.{moved_at}
-use Rattle.cns_account.specs.Past.{date_told, looked_at}
+use Rattle.cns_account.specs.Past.{date_told}
+use Rattle.cns_history.specs.Entries.{looked_at}
 use Rattle.cns_account.specs.Rows.{moved, valued}
 
 -- ---- the lines of movements

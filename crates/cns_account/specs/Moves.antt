@@ -4,11 +4,10 @@ use Rattle.cns_account.specs.Common.{int_wrap, w128, w64, fold, option_map_or, i
 use Rattle.std.specs.BTreeMap.{get}
 use Rattle.cns_terms.specs.Entries.{trade_entries}
 use Rattle.cns_terms.specs.Keys.{key_cmp}
-use Rattle.cns_terms.specs.Listings.{traded}
 use Rattle.cns_terms.specs.Pending.{pend_of}
 use Rattle.cns_terms.specs.declared.command.Trade.{Trade}
 use Rattle.cns_terms.specs.declared.holding.Entry.{Entry}
-use Rattle.cns_account.specs.Past.{accepted_of}
+use Rattle.cns_history.specs.Entries.{trade_of}
 
 -- nothing
 abbrev pub nothing : Moved
@@ -30,7 +29,7 @@ is_within before day d = is_not_after d day && option_map_or (λ b. not (is_not_
 
 -- the trade of an entry of the history that settles on the day, where it was accepted
 abbrev pub settled_by : Option Day → Day → Taken → Option Trade
-settled_by before day t = option_and_then (λ x. if is_within before day x.date then Some x else None) (accepted_of traded t.command t.reply)
+settled_by before day t = option_and_then (λ x. if is_within before day x.date then Some x else None) (trade_of t)
 
 -- what a side of a trade books, at a place
 abbrev pub with_entry : Key → Moves → Entry → Moves

@@ -2,12 +2,12 @@
 ghost use Rattle.std.specs.Prelude.{◌≡◌, [], IfOk, OnOk};
 ghost use Rattle.cns_terms.specs.declared.holding.Key.{Key};
 ghost use Rattle.cns_account.specs.Moves.{AreMoves, is_within, moves_at, settled_by, unmoved, with_entry, with_line, with_taken, with_trade};
-ghost use Rattle.cns_account.specs.Past.{looked_at};
+ghost use Rattle.cns_history.specs.Entries.{looked_at};
 
 use crate::moves::Moves;
 use cns_feed::ReplayBook;
-use cns_history::{HistoryLine, entries_of};
-use cns_terms::{Activity, Command, Entry, Key, NoMemory, Pend, Reply, Taken, Trade};
+use cns_history::{HistoryLine, accepted_trade, entries_of};
+use cns_terms::{Entry, Key, NoMemory, Pend, Taken, Trade};
 use cns_units::Day;
 use std::alloc::Global;
 use std::collections::BTreeMap;
@@ -98,14 +98,11 @@ fn is_within(date: Day, before: &Option<Day>, day: Day) -> bool
 fn settled_by(entry: &Taken, before: &Option<Day>, day: Day) -> Option<Trade>
     ensures { result ≡ settled_by before.now day entry.now }
 {
-    match (&entry.command, &entry.reply) {
-        (Command::Activity(Activity::Trade(trade)), Reply::Accepted) => {
-            if !is_within(trade.date, before, day) {
-                return None;
-            }
-            Some(*trade)
-        }
-        _ => None,
+    let trade = accepted_trade(entry)?;
+    if is_within(trade.date, before, day) {
+        Some(trade)
+    } else {
+        None
     }
 }
 

@@ -54,7 +54,7 @@ fn add_exchange(issues: &mut Vec<Cusip>, exchange: &Exchange) -> Result<(), NoMe
     Ok(())
 }
 
-// An issue, with those that were exchanged for it, directly or by further exchanges.
+// An issue, with those that were exchanged for it, directly or by further exchanges, of exchanges in order.
 fn issues_behind(
     alloc: Global,
     exchanges: &[Exchange],
@@ -64,7 +64,7 @@ fn issues_behind(
 {
     let mut issues = Vec::new(alloc);
     issues.push(issue)?;
-    for exchange in exchanges {
+    for exchange in exchanges.iter().rev() {
         add_exchange(&mut issues, exchange)?;
     }
     Ok(issues)

@@ -1,51 +1,51 @@
-// What the history of a book tells of closed days, exchanges and dividends.
-ghost use Rattle.std.specs.Prelude.{◌≡◌, ◌∷◌, [], ◌++◌, IfOk, List, OnOk};
+// What replies tell of closed days, exchanges and dividends.
+ghost use Rattle.std.specs.Prelude.{◌≡◌, [], ◌++◌, OnOk};
 ghost use Rattle.std.specs.List.{cons_option};
-ghost use Rattle.cns_terms.specs.declared.history.Taken.{Taken};
-ghost use Rattle.cns_account.specs.Past.{IsGathered, IsPast, closed_by, dividend_of, exchange_of, looked_at};
+ghost use Rattle.cns_terms.specs.Common.{exchanged};
+ghost use Rattle.cns_terms.specs.Dividends.{declared};
+ghost use Rattle.cns_history.specs.Entries.{accepted_of};
+ghost use Rattle.cns_account.specs.Past.{IsNoted, date_told};
 
-use cns_feed::ReplayBook;
-use cns_history::entries_of;
-use cns_terms::{Activity, Command, Declared, Exchange, NoMemory, Reply, Taken};
+use cns_terms::{Activity, Command, Declared, Exchange, NoMemory, Reply};
 use cns_units::Day;
 use std::alloc::Global;
 
-/// What the history of a book tells of days, exchanges and dividends.
+/// What replies to commands told of closed days, exchanges and dividends.
 #[derive(Drop)]
 pub struct Past {
     /// The dates of the closed days, in order.
     pub days: Vec<Day>,
-    /// The accepted exchanges, the newest first.
+    /// The accepted exchanges, in order.
     pub exchanges: Vec<Exchange>,
     /// The accepted dividends, in the order in which they were declared.
     pub dividends: Vec<Declared>,
 }
 
-// The date of the day that an entry closed.
-fn closed_by(entry: &Taken) -> Option<Day>
-    ensures { result ≡ closed_by entry.now }
+// The date of the day that a reply tells as closed.
+fn date_told(reply: &Reply) -> Option<Day>
+    ensures { result ≡ date_told reply.now }
 {
-    match entry.reply {
+    match reply {
         Reply::Closed(closed) => Some(closed.date),
         _ => None,
     }
 }
 
-// The exchange of an entry, where it was accepted.
-fn exchange_of(entry: &Taken) -> Option<Exchange>
-    ensures { result ≡ exchange_of entry.now }
+// The exchange that a command is, where it was accepted.
+fn exchange_of(command: &Command, reply: &Reply) -> Option<Exchange>
+    ensures { result ≡ accepted_of exchanged command.now reply.now }
 {
-    match (&entry.command, &entry.reply) {
+    match (command, reply) {
         (Command::Activity(Activity::Exchange(exchange)), Reply::Accepted) => Some(*exchange),
         _ => None,
     }
 }
 
-// The dividend of an entry, where it was accepted.
-fn dividend_of(entry: &Taken) -> Option<Declared>
-    ensures { result ≡ dividend_of entry.now }
+// The dividend that a command is, where it was accepted.
+fn dividend_of(command: &Command, reply: &Reply) -> Option<Declared>
+    ensures { result ≡ accepted_of declared command.now reply.now }
 {
-    match (&entry.command, &entry.reply) {
+    match (command, reply) {
         (Command::Activity(Activity::Dividend(declared)), Reply::Accepted) => Some(*declared),
         _ => None,
     }
@@ -64,37 +64,26 @@ pub(crate) fn add_if_any<T: Copy>(items: &mut Vec<T>, item: Option<T>) -> Result
     }
 }
 
-// Adds what an entry tells.
-#[tactic(auto, using(cns_history::proofs::Owned::both_given, std::proofs::lemmas::Grind::common_steps))]
-fn add_entry(past: &mut Past, entry: &Taken) -> Result<(), NoMemory>
-    ensures { OnOk result ((ts : List Taken) → IsGathered ts past.old → IsGathered (ts ++ entry.now ∷ []) past.new) }
-{
-    add_if_any(&mut past.days, closed_by(entry))?;
-    add_if_any(&mut past.exchanges, exchange_of(entry))?;
-    add_if_any(&mut past.dividends, dividend_of(entry))?;
-    Ok(())
-}
-
-// The same, with the exchanges in the order in which they were taken.
-fn gather(alloc: Global, book: &ReplayBook) -> Result<Past, NoMemory>
-    ensures { IfOk result (IsGathered (looked_at book.now.log.history)) }
-{
-    let mut past = Past {
-        days: Vec::new(alloc),
-        exchanges: Vec::new(alloc),
-        dividends: Vec::new(alloc),
-    };
-    for entry in entries_of(book) {
-        add_entry(&mut past, &entry)?;
+impl Past {
+    /// Of no command. It takes no memory.
+    pub fn new(alloc: Global) -> Past
+        ensures days { result.days.items ≡ [] }
+        ensures exchanges { result.exchanges.items ≡ [] }
+        ensures dividends { result.dividends.items ≡ [] }
+    {
+        Past {
+            days: Vec::new(alloc),
+            exchanges: Vec::new(alloc),
+            dividends: Vec::new(alloc),
+        }
     }
-    Ok(past)
-}
 
-/// What the history of a book tells of closed days, exchanges and dividends.
-pub fn past_of(alloc: Global, book: &ReplayBook) -> Result<Past, NoMemory>
-    ensures { IfOk result (IsPast (looked_at book.now.log.history)) }
-{
-    let mut past = gather(alloc, book)?;
-    past.exchanges.reverse();
-    Ok(past)
+    /// Adds what the reply to a command tells.
+    pub fn note(&mut self, command: &Command, reply: &Reply) -> Result<(), NoMemory>
+        ensures { OnOk result (IsNoted command.now reply.now self.old self.new) }
+    {
+        add_if_any(&mut self.days, date_told(reply))?;
+        add_if_any(&mut self.exchanges, exchange_of(command, reply))?;
+        add_if_any(&mut self.dividends, dividend_of(command, reply))
+    }
 }

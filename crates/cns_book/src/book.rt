@@ -22,6 +22,7 @@ use cns_positions::Positions;
 use cns_retransmit::Batch;
 use cns_sheets::Sheet;
 use cns_terms::{Command, Holding, Key, NoMemory, Taken, Worker};
+use cns_trades::Pending;
 use cns_units::{Account, Cusip, Day, Price};
 use std::alloc::Allocator;
 use std::marker::Model;
@@ -154,6 +155,14 @@ impl<P: Positions<A>, A: Allocator + Drop + Clone> Book<P, A> {
         ensures { result.now ≡ batches_shown (state_of self.now.log) day }
     {
         self.parts.batches(day)
+    }
+
+    /// The trades that wait for their date, in the order in which they were taken, with what each member is to get and to give
+    /// in each issue by all of them.
+    pub fn pending(&self) -> &Pending<A>
+        ensures { result.now ≡ waiting self.now.log }
+    {
+        self.parts.pending()
     }
 
     /// The entry at a place of the history, from 1; None past its end.

@@ -4,7 +4,7 @@ pub use Rattle.std.proofs.lemmas.Bool.{eq-eqb, ne_eqb}
 pub use Rattle.std.proofs.lemmas.Fn.{always_returns_same}
 pub use Rattle.std.proofs.lemmas.Grind.{common_steps}
 pub use Rattle.std.proofs.lemmas.List.{drop_more, flat_map_more, map-append, take_all}
-pub use Rattle.std.proofs.lemmas.List.Elements.{filter-append}
+pub use Rattle.std.proofs.lemmas.List.Elements.{filter-append, filter_map-append}
 pub use Rattle.std.proofs.lemmas.List.Sums.{fold-append}
 pub use Rattle.std.specs.BTreeMap.{get}
 pub use Rattle.std.specs.Cmp.Lexicographic.{slice_cmp}
@@ -25,8 +25,7 @@ unfoldable pub use Rattle.cns_day.specs.Summary.{lines_after}
 pub use Rattle.cns_day.specs.Summary.{grouped, sheet_lines}
 pub use Rattle.cns_day.specs.Due.{AreLater, projected_all, with_due}
 pub use Rattle.cns_day.specs.Issues.{with_row_in}
-pub use Rattle.cns_day.specs.Listed.{IsInOrderOf, is_short, live_among, owing_among, shorts_among}
-pub use Rattle.cns_exceptions.specs.Sought.{later_among}
+pub use Rattle.cns_day.specs.Listed.{IsInOrderOf, is_short, later_among, live_among, owing_among, shorts_among}
 pub use Rattle.std.specs.Int.{int_wrap, w64}
 pub use Rattle.std.specs.Prelude.{ℤ, pos, ◌+ℤ◌}
 pub use Rattle.cns_day.specs.declared.shorts.Aged.{Aged}

@@ -1,11 +1,12 @@
 -- Lists that are gathered item by item.
--- For `lines_of` of summary.rt; `later_shares` of due.rt; `gather` and `gather_batch` of liable.rt.
-use Rattle.cns_day.proofs.Common.{◌≡◌, ◌∙◌, sym, ap, List, [], ◌∷◌, map, fold, ℕ, ◌+◌, ◌++◌, append-nil, arith, Option, Some, append_assoc, Account, DaySheet, Row, grouped, ◌<◌, get_or, length, None, take, get, fold-append, take_next, key_cmp, AreLater, with_due, ◌≤◌, flat_map, flat_map_more, take_all, lines_after}
+-- For `lines_of` of summary.rt; `later_shares` of due.rt; `gather` and `gather_batch` of liable.rt; `gather` of projection.rt.
+use Rattle.cns_day.proofs.Common.{◌≡◌, ◌∙◌, sym, ap, List, [], ◌∷◌, map, fold, ℕ, ◌+◌, ◌++◌, append-nil, arith, Option, Some, append_assoc, filter-append, filter_map-append, later_among, Account, Day, DaySheet, Row, grouped, ◌<◌, get_or, length, None, take, get, fold-append, take_next, key_cmp, AreLater, with_due, ◌≤◌, flat_map, flat_map_more, take_all, lines_after}
 use Rattle.cns_account.specs.declared.day_moves.DayMoves.{DayMoves}
 use Rattle.cns_day.specs.declared.summary.SheetLine.{SheetLine}
 use Rattle.cns_day.specs.declared.due.Later.{Later}
 use Rattle.cns_terms.specs.declared.holding.Key.{Key}
 use Rattle.cns_day.specs.declared.projection.Due.{Due}
+use Rattle.cns_terms.specs.declared.history.Taken.{Taken}
 use Rattle.std.proofs.lemmas.List.Concat.{flat_map_single}
 
 -- one more row
@@ -18,6 +19,10 @@ lines_more s ms before all items new left r rest h1 h2 h3 = grind (arith, lines_
 pub lines_end : (s : DaySheet) (ms : DayMoves) (before : Option Account) (all items : List SheetLine) (left : List Row) → left ≡ [] → all ≡ items ++ lines_after s ms before left → items ≡ all
 unfolding lines_after
 lines_end s ms before all items left none was = sym (was ∙ ap (λ rs. items ++ lines_after s ms before rs) none ∙ append-nil items)
+
+-- the trades that are dated after a day, of some entries and another
+pub later_more : (day : Day) (ts : List Taken) (t : Taken) → later_among day (ts ++ t ∷ []) ≡ later_among day ts ++ later_among day (t ∷ [])
+later_more day ts t = simp (filter_map-append, filter-append)
 
 -- one trade more
 pub due_more : (ds : List Due) (i : ℕ) (d : Due) (old new : Later) → i < length ds → get_or ds i d ≡ d

@@ -8,7 +8,7 @@ pub use Rattle.cns_account.specs.Moves.{moves_at}
 pub use Rattle.cns_account.specs.Rows.{causes, moved, no_causes, with_causes}
 pub use Rattle.cns_account.specs.declared.day_moves.DayMoves.{DayMoves}
 pub use Rattle.cns_book.specs.Log.{Log, state_of}
-pub use Rattle.cns_book.specs.Shown.{batches_shown, notice_of, position_shown}
+pub use Rattle.cns_book.specs.Shown.{batches_shown, notice_of}
 pub use Rattle.cns_history.specs.Lines.{place, standing}
 pub use Rattle.cns_tables.specs.Escape.{escaped}
 pub use Rattle.cns_tables.specs.Grouped.{amount_text, count_text, signed_text}
@@ -19,20 +19,13 @@ pub use Rattle.cns_terms.specs.Common.{Account, Cusip, Day, DaySheet, Journal, L
 pub use Rattle.cns_terms.specs.Keys.{key_cmp}
 pub use Rattle.cns_terms.specs.Sheets.{rows_for, statement}
 pub use Rattle.cns_terms.specs.Sums.{total}
-pub use Rattle.cns_terms.specs.declared.command.Command.{Command}
 pub use Rattle.cns_terms.specs.declared.command.Trade.{Trade}
-pub use Rattle.cns_terms.specs.declared.history.Taken.{Taken}
-pub use Rattle.cns_terms.specs.declared.reply.Reply.{Reply}
 pub use Rattle.cns_terms.specs.declared.sheet.Row.{Row}
 pub use Rattle.cns_units.specs.Day.{day_number, day_text}
 pub use Rattle.cns_day.specs.declared.figures.Figures.{Figures}
 pub use Rattle.cns_day.specs.declared.notices.Numbered.{Numbered}
-pub use Rattle.cns_exceptions.specs.declared.finding.Outcome.{Outcome}
 pub use Rattle.cns_day.specs.declared.liable.Owing.{Owing}
 pub use Rattle.cns_day.specs.declared.projection.Due.{Due}
-pub use Rattle.cns_exceptions.specs.declared.counts.Counted.{Counted}
 pub use Rattle.cns_day.specs.declared.shorts.Aged.{Aged}
 pub use Rattle.cns_exceptions.specs.declared.days.Close.{Close}
-pub use Rattle.cns_exceptions.specs.declared.survey.Survey.{Survey}
-pub use Rattle.cns_exceptions.specs.declared.counts.Span.{Span}
 pub use Rattle.cns_tables.specs.declared.piece.Piece.{Piece}

@@ -1,12 +1,13 @@
 -- What the lists of a page are of.
 use Rattle.std.specs.Prelude.{Bool, ◌&&◌, int_lt, pos, ℕ, ◌-◌, ◌==◌, drop, length, ◌^◌, List, ◌++◌, filter, filter_map, map, min, Option, not, option_map, sum_by, count_by, unsigned_abs}
-use Rattle.cns_exceptions.specs.Sought.{later_among}
 use Rattle.cns_day.specs.Common.{day_number, int_cmp, flat_map, Log, date, row_key, standing, state_of, Day, Liables, Journal, State, is_live, is_not_after, journal_of, notices, stage, Trade, Row, batches_shown, notice_of, Figures, Numbered, Owing, Due, Aged, Close}
 use Rattle.std.specs.List.Sorted.{IsPermutation, IsSortedByKey, IsStableByKey}
 use Rattle.std.specs.declared.cmp.Ordering.{Ordering}
 use Rattle.cns_terms.specs.Common.{sheet_on}
 use Rattle.cns_terms.specs.Notices.{Notice}
-pub use Rattle.cns_account.specs.Past.{looked_at}
+pub use Rattle.cns_history.specs.Entries.{looked_at}
+use Rattle.cns_history.specs.Entries.{trade_of}
+use Rattle.cns_terms.specs.declared.history.Taken.{Taken}
 
 -- the second list is the first one in the order of keys: no element is below the one before it, and those that tie stand as they stood
 pub record IsInOrderOf {X K : Type 0} (key : X → K) (cmp : K → K → Ordering) (xs ys : List X) : Type 0 where
@@ -35,6 +36,10 @@ abbrev pub live_shown : State → List Numbered
 live_shown S = live_among (journal_of S) (notices (journal_of S))
 
 -- ---- trades that settle later
+
+-- the accepted trades among entries of a history that are dated after a day
+abbrev pub later_among : Day → List Taken → List Trade
+later_among day ts = filter (λ t. not (is_not_after t.date day)) (filter_map trade_of ts)
 
 -- a trade, with whether it was booked into the next day
 abbrev pub due : Day → Trade → Due

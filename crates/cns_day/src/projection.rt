@@ -1,13 +1,12 @@
 // The projection: accepted trades that settle after the day.
-ghost use Rattle.std.specs.Prelude.{◌≡◌, IfOk, map};
-ghost use Rattle.cns_exceptions.specs.Sought.{later_among};
-ghost use Rattle.cns_day.specs.Listed.{AreDue, due, looked_at, next_day};
+ghost use Rattle.std.specs.Prelude.{◌≡◌, ◌∷◌, [], IfOk, map};
+ghost use Rattle.std.specs.Option.{option_to_list};
+ghost use Rattle.cns_day.specs.Listed.{AreDue, due, later_among, looked_at, next_day};
 
-use cns_exceptions::later;
 use cns_feed::ReplayBook;
-use cns_history::entries_of;
+use cns_history::{accepted_trade, entries_of};
 use cns_tables::{Piece, ROW, TableRow, cents_of, write_line};
-use cns_terms::{NoMemory, Trade};
+use cns_terms::{NoMemory, Taken, Trade};
 use cns_units::Day;
 use std::alloc::{AllocError, Global};
 
@@ -16,6 +15,18 @@ use std::alloc::{AllocError, Global};
 pub struct Due {
     pub trade: Trade,
     pub is_booked: bool,
+}
+
+// The trade of an entry of the history, where it was accepted and is dated after the day.
+fn later(entry: &Taken, day: Day) -> Option<Trade>
+    ensures { later_among day (entry.now ∷ []) ≡ option_to_list result }
+{
+    let trade = accepted_trade(entry)?;
+    if trade.date.number() > day.number() {
+        Some(trade)
+    } else {
+        None
+    }
 }
 
 // The accepted trades of a book that are dated after a day, in the order in which they were taken.

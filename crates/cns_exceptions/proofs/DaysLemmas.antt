@@ -1,13 +1,14 @@
 -- The days that records close.
 -- For `days_of` of days.rt.
-use Rattle.cns_exceptions.proofs.Common.{◌≡◌, ℕ, ◌+◌, List, [], ◌∷◌, ◌++◌, Option, None, Some, refl, ap, ◌∙◌, sym, append_assoc, append-nil, arith, length, length-append, map, map-append, State, Line, state_after_line, Day, Command, state_after}
+use Rattle.cns_exceptions.proofs.Common.{◌≡◌, ℕ, ◌+◌, List, [], ◌∷◌, ◌++◌, Option, None, Some, refl, ap, ◌∙◌, sym, append_assoc, append-nil, arith, length, length-append, inl, inr, map, map-append, take, State, Line, state_after_line, Command, state_after}
 use Rattle.std.specs.Prelude.{unwrap_or, Ok, Err, is_some, if◌then◌else◌}
-use Rattle.cns_terms.specs.Common.{date, day, journal_of, opened}
+use Rattle.std.proofs.Math.Seq.{take-append_seam}
+use Rattle.cns_terms.specs.Common.{Day, date, day, journal_of, opened}
 use Rattle.cns_feed.specs.Records.{Pending}
 use Rattle.cns_feed.specs.declared.records.Records.{Records}
 use Rattle.cns_exceptions.specs.declared.days.Close.{Close}
 use Rattle.cns_exceptions.specs.declared.days.Days.{Days}
-use Rattle.cns_exceptions.specs.Days.{AreDays, ReadsDay, closed_at, closed_in, ended, next_day}
+use Rattle.cns_exceptions.specs.Days.{AreDays, EndsWith, ReadsDay, closed_at, closed_in, ended, next_day}
 
 -- what a record does to the open day
 pub record Turned (n : ℕ) (S T : State) (l : Line) (o : Option Day) : Type 0 where
@@ -93,9 +94,26 @@ pub gone_over : {R : Type 0} (rem : R → Option (List ℕ)) (a b : Records R) (
 gone_over rem a b opening today next number old new close turns all read is told p =
     gone_line rem a b opening today next number (number + 1) old new (Some next) turns all read refl refl (ap (map ended) is ∙ map-append ended old (close ∷ []) ∙ ap (λ e. map ended old ++ e ∷ []) told) p
 
+-- the days of the lines that were read
+gone_first : {R : Type 0} (rem : R → Option (List ℕ)) (rs : Records R) (opening today : Day) (number : ℕ) (closes : List Close) (turns : ℕ) (all : List Line)
+    → Gone rem rs opening today number closes turns all → map ended closes ≡ closed_in 0 (opened opening) (take turns all)
+gone_first rem rs opening today number closes turns all p =
+    p.closed ∙ ap (closed_in 0 (opened opening)) (sym ((λ i. take (sym p.count i) (p.whole i)) ∙ take-append_seam p.done p.rest))
+
 -- where no line is left
-pub gone_all : {R : Type 0} (rem : R → Option (List ℕ)) (rs : Records R) (opening today : Day) (number : ℕ) (closes : List Close) (turns : ℕ) (all : List Line) (d : Days)
-    → ReadsDay rem rs rs today None → d.closes.items ≡ closes → d.records ≡ turns → Gone rem rs opening today number closes turns all → AreDays opening all d
-gone_all rem rs opening today number closes turns all d none is count p =
+pub gone_all : {R : Type 0} (rem : R → Option (List ℕ)) (rs : Records R) (opening today : Day) (last : Option Day) (number : ℕ) (closes : List Close) (turns : ℕ) (all : List Line) (d : Days)
+    → ReadsDay rem rs rs today None → d.closes.items ≡ closes → d.records ≡ turns → Gone rem rs opening today number closes turns all → AreDays opening last all d
+gone_all rem rs opening today last number closes turns all d none is count p =
     let whole : all ≡ p.done = p.whole ∙ ap (λ x. p.done ++ x) (none p.rest p.left) ∙ append-nil p.done in
-    record { closed = rw whole (ap (map ended) is ∙ p.closed); count = rw whole (count ∙ sym p.count) }
+    record {
+      closed = ap (map ended) is ∙ gone_first rem rs opening today number closes turns all p ∙ ap (λ n. closed_in 0 (opened opening) (take n all)) (sym count);
+      whole = inl (count ∙ sym p.count ∙ ap length (sym whole));
+    }
+
+-- where the day that is the last one was closed
+pub gone_to : {R : Type 0} (rem : R → Option (List ℕ)) (rs : Records R) (opening today : Day) (last : Option Day) (number : ℕ) (closes : List Close) (turns : ℕ) (all : List Line) (d : Days)
+    → EndsWith last d.closes.items → d.closes.items ≡ closes → d.records ≡ turns → Gone rem rs opening today number closes turns all → AreDays opening last all d
+gone_to rem rs opening today last number closes turns all d ends is count p = record {
+  closed = ap (map ended) is ∙ gone_first rem rs opening today number closes turns all p ∙ ap (λ n. closed_in 0 (opened opening) (take n all)) (sym count);
+  whole = inr ends;
+}

@@ -1,10 +1,9 @@
 -- Lists that are gathered item by item.
--- For `counts_of` of counts.rt; `note` and `rank` of survey.rt.
-use Rattle.cns_exceptions.proofs.Common.{◌≡◌, ◌∙◌, ◌-◌, ap, sym, take, List, [], ◌∷◌, map, ℕ, ◌+◌, ◌++◌, add-one, append-nil, ne_eqb, map-append, count_at, count_shown, counted, arith, length, refl, length-map, with_items_is, known, put_right, put_right_by, told, Survey, Outcome, counts_below}
+-- For `counts_of` of counts.rt; `rank` and `look_back` of survey.rt.
+use Rattle.cns_exceptions.proofs.Common.{◌≡◌, ◌∙◌, ◌-◌, ap, sym, take, List, [], ◌∷◌, map, ℕ, ◌+◌, ◌++◌, add-one, append-nil, ne_eqb, map-append, count_at, count_shown, counted, arith, length, refl, length-map, with_items_is, known, looked_at, looked_back, looked_for, or_first, told, with_found, Finding, Survey, Outcome, Taken, counts_below}
 use Rattle.cns_exceptions.specs.declared.counts.Counted.{Counted}
 use Rattle.std.proofs.lemmas.List.{take-map}
 use Rattle.std.specs.Vec.{with_items}
-use Rattle.cns_exceptions.specs.declared.finding.Finding.{Finding}
 
 -- a kind that there is any of
 pub one_more : (n : ℕ) (os : List Outcome) (cs : List Counted) (c : Counted) (count : ℕ) → count ≡ count_at n os → (count ≡ 0 → ⊥)
@@ -18,19 +17,15 @@ pub none_more : (n : ℕ) (os : List Outcome) (cs : List Counted) (count : ℕ) 
 unfolding counts_below
 none_more n os cs count h1 h2 h3 = grind (arith, count_at, count_shown, append-nil, counts_below, add-one)
 
--- what is told of one
-told_right : (n r : ℕ) (f : Finding) → told (put_right n r f) ≡ put_right_by n r (told f)
-told_right n r f = grind arith
-
--- and of several
-all_right : (n r : ℕ) (fs : List Finding) → map told (map (put_right n r) fs) ≡ map (put_right_by n r) (map told fs)
-all_right n r [] = refl
-all_right n r (f ∷ fs) = ap (λ e. e ∷ map told (map (put_right n r) fs)) (told_right n r f) ∙ ap (λ es. put_right_by n r (told f) ∷ es) (all_right n r fs)
+-- what is told of exceptions with the accepted trades that have their references
+told_found : (ns : List ℕ) (ts : List Taken) (fs : List Finding) → map told (map (with_found ns ts) fs) ≡ map (looked_for ns ts) (map told fs)
+told_found ns ts [] = refl
+told_found ns ts (f ∷ fs) = ap (λ es. looked_for ns ts (told f) ∷ es) (told_found ns ts fs)
 
 -- what is known with them
-pub findings_righted : (s : Survey) (r : ℕ) (fs : List Finding) → length s.findings.items ≡ s.findings.len → fs ≡ map (put_right s.records r) s.findings.items
-    → known (record s { findings = with_items s.findings fs }) ≡ record (known s) { first = map (put_right_by s.records r) (map told s.findings.items) }
-findings_righted s r fs long is = grind (arith, with_items_is, length, length-map, put_right, known, map, told, all_right)
+pub findings_looked_for : (s : Survey) (H : List Taken) (fs : List Finding) → length s.findings.items ≡ s.findings.len → fs ≡ map (with_found s.invalid.items (looked_at H)) s.findings.items
+    → known (record s { findings = with_items s.findings fs }) ≡ looked_back H (known s)
+findings_looked_for s H fs long is = grind (arith, with_items_is, length, length-map, known, map, told, told_found)
 
 -- questions behind others
 pub questions_last : (fs qs : List Finding) (n : ℕ) → n ≡ 200 - length fs → map told (fs ++ take n qs) ≡ map told fs ++ take (200 - length (map told fs)) (map told qs)

@@ -2,6 +2,6 @@ mod Blocks
 pub mod DaysLemmas
 pub mod Gathered
 pub mod PlayLemmas
-pub mod SoughtLemmas
+pub mod AcceptedLemmas
 pub mod Shown
 pub mod Common

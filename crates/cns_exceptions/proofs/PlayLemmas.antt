@@ -1,6 +1,6 @@
 -- A book and what is known of its records, line after line.
 -- For `play_with` and `step` of play.rt.
-use Rattle.cns_exceptions.proofs.Common.{◌≡◌, ◌<◌, ℕ, ◌+◌, List, [], ◌∷◌, ◌++◌, length, take, Option, refl, sym, ap, ◌∙◌, append_assoc, append-nil, length-append, arith, State, Log, state_of, Line, state_after_line, Pending, log_after_line, log_after-append, state_of-after, Came, Known, Takes, known, noted, replied, righted, wanted, Survey, Command, Watched, state_after, log_after, noted_all, Outcome}
+use Rattle.cns_exceptions.proofs.Common.{◌≡◌, ◌<◌, ℕ, ◌+◌, List, [], ◌∷◌, ◌++◌, length, take, Option, refl, sym, ap, ◌∙◌, append_assoc, append-nil, length-append, arith, State, Log, state_of, Line, state_after_line, Pending, log_after_line, log_after-append, state_of-after, Came, Known, Takes, known, noted, replied, wanted, Survey, Command, Watched, state_after, log_after, noted_all, Outcome}
 use Rattle.std.proofs.Math.Seq.{take-append_seam}
 use Rattle.std.proofs.lemmas.List.{take_all}
 use Rattle.cns_terms.specs.declared.reply.Reply.{Reply}
@@ -17,11 +17,8 @@ noted_all-append k S (l ∷ a) b = noted_all-append (noted k S l) (state_after_l
 wanted_records : (k : Known) (w : Outcome) (c : Option Command) → (wanted k w c).records ≡ k.records
 wanted_records k w c = grind arith
 
-righted_records : (k : Known) (r : Option ℕ) → (righted k r).records ≡ k.records
-righted_records k r = grind arith
-
 replied_records : (k : Known) (cmd : Command) (r : Reply) → (replied k cmd r).records ≡ k.records
-replied_records k cmd r = grind (arith, wanted_records, righted_records)
+replied_records k cmd r = grind (arith, wanted_records)
 
 -- a record that is noted is counted
 pub noted_records : (k : Known) (S : State) (l : Line) → (noted k S l).records ≡ k.records + 1

@@ -1,7 +1,8 @@
 -- Where the days of an input end.
-use Rattle.std.specs.Prelude.{◌≡◌, ℕ, ◌+◌, List, [], ◌∷◌, ◌++◌, if◌then◌else◌, length, map, Option, None, Some, Ok, Err}
-use Rattle.cns_exceptions.specs.Common.{Day, State, answer, is_not_after, opened, Line, state_after_line, Close, Reply, Activity}
+use Rattle.std.specs.Prelude.{◌≡◌, ℕ, ◌+◌, Bool, true, false, List, [], ◌∷◌, ◌++◌, if◌then◌else◌, length, map, take, ◌⊎◌, Option, None, Some, Ok, Err}
+use Rattle.cns_exceptions.specs.Common.{option_map_or, Day, State, answer, is_not_after, opened, Line, state_after_line, Close, Reply, Activity}
 use Rattle.cns_terms.specs.declared.command.Command.{Command}
+use Rattle.cns_terms.specs.Common.{is_same_day}
 use Rattle.cns_feed.specs.Records.{IsReady, Pending}
 use Rattle.cns_feed.specs.declared.records.Records.{Records}
 use Rattle.cns_exceptions.specs.declared.days.Days.{Days}
@@ -30,10 +31,18 @@ unfoldable pub closed_in : ℕ → State → List Line → List Ended
 closed_in n S [] = []
 closed_in n S (l ∷ ls) = closed_at (n + 1) S l ++ closed_in (n + 1) (state_after_line S l) ls
 
--- where the days of records on a book end that opens on a date, and how many records there are
-pub record AreDays (opening : Day) (lines : List Line) (d : Days) : Type 0 where
-  pub closed : map ended d.closes.items ≡ closed_in 0 (opened opening) lines
-  pub count : d.records ≡ length lines
+-- whether a day is the last one that is wanted
+abbrev pub is_last : Option Day → Day → Bool
+is_last last d = option_map_or (is_same_day d) last false
+
+-- the last of some closes is that of this day
+abbrev pub EndsWith : Option Day → List Close → Type 0
+EndsWith last closes = (before : List Close) × (c : Close) × (closes ≡ before ++ c ∷ []) × (is_last last c.date ≡ true)
+
+-- where the days of the first records end, on a book that opens on a date: of all records, or of those up to the close of a day
+pub record AreDays (opening : Day) (last : Option Day) (lines : List Line) (d : Days) : Type 0 where
+  pub closed : map ended d.closes.items ≡ closed_in 0 (opened opening) (take d.records lines)
+  pub whole : (d.records ≡ length lines) ⊎ EndsWith last d.closes.items
 
 -- the day that a record opens, where it is a close whose date is after the open day's
 abbrev pub next_day : Day → Line → Option Day

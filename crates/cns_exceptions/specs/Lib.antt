@@ -1,6 +1,6 @@
 pub mod Days
 pub mod Survey
-pub mod Sought
+pub mod Accepted
 pub mod Facts
 pub mod Exceptions
 pub mod Counts

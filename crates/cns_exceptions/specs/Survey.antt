@@ -1,20 +1,26 @@
 -- What is known of the records of an input: which of them are exceptions.
-use Rattle.std.specs.Prelude.{◌≡◌, ℕ, ◌+◌, ◌-◌, ◌^◌, ◌==◌, ◌&&◌, ◌||◌, Bool, false, is_none, List, [], ◌∷◌, ◌++◌, if◌then◌else◌, not, option_and_then, length, map, min, nat_lt, take, true, Option, Some, None, Ok, Err}
-use Rattle.cns_exceptions.specs.Common.{option_map_or, Account, Day, State, answer, opened, Command, Reply, Log, state_of, Line, state_after_line, blank_log, log_after, log_after_line, history, HistoryLine, Watched, Finding, Outcome, Played, Survey, Activity}
+use Rattle.std.specs.Prelude.{◌≡◌, ℕ, ◌+◌, ◌-◌, ◌^◌, ◌==◌, ◌||◌, Bool, false, List, [], ◌∷◌, ◌++◌, if◌then◌else◌, not, option_and_then, length, map, min, nat_lt, take, true, Option, Some, None, Ok, Err}
+use Rattle.cns_exceptions.specs.Common.{option_map_or, Account, Day, State, answer, opened, Command, Reply, Log, state_of, Line, state_after_line, blank_log, log_after, log_after_line, history, HistoryLine, Watched, Accepted, Exchange, Finding, Outcome, Played, Survey, Activity, Taken}
 use Rattle.cns_feed.specs.Records.{IsReady, Pending}
 use Rattle.cns_feed.specs.declared.records.Records.{Records}
+use Rattle.cns_history.specs.Entries.{accepted_of, looked_at}
 use Rattle.cns_history.specs.Lines.{lines_of}
+use Rattle.cns_account.specs.Past.{date_told}
+use Rattle.cns_terms.specs.Common.{exchanged}
+use Rattle.cns_terms.specs.Dividends.{declared}
+use Rattle.cns_terms.specs.declared.action.Declared.{Declared}
+use Rattle.std.specs.List.{cons_option}
+use Rattle.cns_exceptions.specs.Accepted.{or_first}
 
--- an exception: the number of its record, from 1, why it is one, the reference of a trade, and the number of the first later record
--- whose trade with that reference was accepted
+-- an exception: the number of its record, from 1, why it is one, the reference of a trade, and the accepted trade that has it
 pub record Exception : Type 0 where
   pub number : ℕ
   pub why : Outcome
   pub reference : Option ℕ
-  pub put_right : Option ℕ
+  pub accepted : Option Accepted
 
--- what is known of records: how many there are, how many of them are exceptions, and the numbers of the invalid ones; and of those
--- that are looked at, which come after so many others, the exceptions' reasons, and the first 200 of these that are no questions, and the
+-- what is known of records: how many there are, how many of them are exceptions, the numbers of the invalid ones, and the dates of
+-- the closed days, the accepted exchanges and the accepted dividends; and of those that are looked at, which come after so many others, the exceptions' reasons, and the first 200 of these that are no questions, and the
 -- first 200 that are
 pub record Known : Type 0 where
   pub from : ℕ
@@ -24,10 +30,13 @@ pub record Known : Type 0 where
   pub first : List Exception
   pub questions : List Exception
   pub invalid : List ℕ
+  pub days : List Day
+  pub exchanges : List Exchange
+  pub dividends : List Declared
 
 -- of no records
 abbrev pub nothing : ℕ → Known
-nothing from = record { from = from; records = 0; exceptions = 0; reasons = []; first = []; questions = []; invalid = [] }
+nothing from = record { from = from; records = 0; exceptions = 0; reasons = []; first = []; questions = []; invalid = []; days = []; exchanges = []; dividends = [] }
 
 -- one record more
 abbrev pub counted : Known → Known
@@ -55,7 +64,7 @@ with_first es e = if nat_lt (length es) 200 then es ++ e ∷ [] else es
 abbrev pub wanted : Known → Outcome → Option Command → Known
 wanted k w cmd =
     let more = record k { exceptions = min (k.exceptions + 1) (2 ^ 64 - 1); reasons = k.reasons ++ w ∷ [] } in
-    let told : Exception = record { number = k.records; why = w; reference = option_and_then reference_of cmd; put_right = None } in
+    let told : Exception = record { number = k.records; why = w; reference = option_and_then reference_of cmd; accepted = None } in
     if not (nat_lt k.from k.records) then record k { exceptions = min (k.exceptions + 1) (2 ^ 64 - 1) }
     else if option_map_or is_question cmd false then record more { questions = with_first k.questions told }
     else record more { first = with_first k.first told }
@@ -64,24 +73,30 @@ wanted k w cmd =
 abbrev pub ranked : Known → Known
 ranked k = record k { first = k.first ++ take (200 - length k.first) k.questions; questions = [] }
 
--- whether a reference is the one
-abbrev pub is_reference : ℕ → Option ℕ → Bool
-is_reference r o = option_map_or (λ q. q == r) o false
+-- an exception with the accepted trade of a history that has its reference, by the numbers of the invalid records
+abbrev pub looked_for : List ℕ → List Taken → Exception → Exception
+looked_for invalid ts e = record e { accepted = or_first invalid 0 ts e.reference e.accepted }
 
--- an exception, where a trade with a reference was accepted by the record with a number
-abbrev pub put_right_by : ℕ → ℕ → Exception → Exception
-put_right_by n r e = if is_none e.put_right && is_reference r e.reference then record e { put_right = Some n } else e
+-- the first ones with theirs
+abbrev pub looked_back : List Taken → Known → Known
+looked_back H k = record k { first = map (looked_for k.invalid (looked_at H)) k.first }
 
--- a trade with the reference was accepted, if it was one
-abbrev pub righted : Known → Option ℕ → Known
-righted k None = k
-righted k (Some r) = record k { first = map (put_right_by k.records r) k.first }
+-- what the reply to a command tells of closed days, exchanges and dividends
+abbrev pub with_past : Known → Command → Reply → Known
+with_past k cmd r = record k {
+  days = k.days ++ cons_option (date_told r) [];
+  exchanges = k.exchanges ++ cons_option (accepted_of exchanged cmd r) [];
+  dividends = k.dividends ++ cons_option (accepted_of declared cmd r) [];
+}
 
--- what the reply to its command tells
+-- where it is a refusal, the exception
+abbrev pub if_refused : Known → Command → Reply → Known
+if_refused k cmd (Reply.Refused r) = wanted k (Outcome.Refused r) (Some cmd)
+if_refused k cmd _ = k
+
+-- all that it tells
 abbrev pub replied : Known → Command → Reply → Known
-replied k cmd (Reply.Refused r) = wanted k (Outcome.Refused r) (Some cmd)
-replied k cmd Reply.Accepted = righted k (reference_of cmd)
-replied k cmd _ = k
+replied k cmd r = if_refused (with_past k cmd r) cmd r
 
 -- what it tells, in the state before it
 abbrev pub told_by : Known → State → Line → Known
@@ -99,11 +114,7 @@ noted_all k S (l ∷ ls) = noted_all (noted k S l) (state_after_line S l) ls
 
 -- a finding without its text and what decided it
 abbrev pub told : Finding → Exception
-told f = record { number = f.record; why = f.outcome; reference = f.named.reference; put_right = f.put_right }
-
--- a finding, where a trade with a reference was accepted by the record with a number
-abbrev pub put_right : ℕ → ℕ → Finding → Finding
-put_right n r f = if is_none f.put_right && is_reference r f.named.reference then record f { put_right = Some n } else f
+told f = record { number = f.record; why = f.outcome; reference = f.named.reference; accepted = f.accepted }
 
 -- whether a refused record names an account
 abbrev pub names : Account → Finding → Bool
@@ -119,6 +130,9 @@ known s = record {
   first = map told s.findings.items;
   questions = map told s.questions.items;
   invalid = s.invalid.items;
+  days = s.past.days.items;
+  exchanges = s.past.exchanges.items;
+  dividends = s.past.dividends.items;
 }
 
 -- the first of some lines was taken and noted, and the lines of what is watched were added; the others are left
@@ -147,5 +161,5 @@ pub record Came (w : Watched) (first now : Log) (from : Known) (s : Survey) (tol
 -- what was played of lines on a book that opens on a date, those after the first so many looked at, with something that was watched
 pub record ComesTo (opening : Day) (from : ℕ) (w : Watched) (lines : List Line) (p : Played) : Type 0 where
   pub log : p.book.log ≡ log_after (blank_log opening) lines
-  pub knows : known p.survey ≡ ranked (noted_all (nothing from) (opened opening) lines)
+  pub knows : known p.survey ≡ looked_back p.book.log.history (ranked (noted_all (nothing from) (opened opening) lines))
   pub tells : p.lines.items ≡ history w 0 (opened opening) lines

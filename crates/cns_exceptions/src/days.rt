@@ -2,7 +2,7 @@
 ghost use Rattle.std.specs.Prelude.{◌≡◌, ◌∷◌, [], ◌++◌, IfOk, OnOk};
 ghost use Rattle.cns_feed.specs.Output.{lines_of};
 ghost use Rattle.cns_feed.specs.Records.{IsReady};
-ghost use Rattle.cns_exceptions.specs.Days.{AreDays, ReadsDay, next_day};
+ghost use Rattle.cns_exceptions.specs.Days.{AreDays, ReadsDay, is_last, next_day};
 
 use crate::input::Input;
 use cns_feed::{Line, MOST_RECORDS, Records, ReplayFault};
@@ -24,12 +24,12 @@ pub struct Close {
     pub end: u64,
 }
 
-/// Where the days of an input end.
+/// Where days of an input end.
 #[derive(Drop)]
 pub struct Days {
     /// The accepted closes, in order.
     pub closes: Vec<Close>,
-    /// How many records there are.
+    /// How many records were read for them.
     pub records: u64,
 }
 
@@ -59,6 +59,16 @@ fn read_day<R: Read>(
     Ok(Some(next_day(&line, today)))
 }
 
+// Whether a day is the last one that is wanted.
+fn is_last(last: &Option<Day>, date: Day) -> bool
+    ensures { result ≡ is_last last.now date }
+{
+    match last {
+        Some(last) => date == *last,
+        None => false,
+    }
+}
+
 fn push(closes: &mut Vec<Close>, close: Close) -> Result<(), NoMemory>
     ensures { OnOk result (closes.new.items ≡ closes.old.items ++ close ∷ []) }
 {
@@ -66,11 +76,17 @@ fn push(closes: &mut Vec<Close>, close: Close) -> Result<(), NoMemory>
     Ok(())
 }
 
-/// Where the days of an input end, by its closes alone: no other record bears on whether a close is accepted, and on which day.
+/// Where the days of an input end, by its closes alone: no other record bears on whether a close is accepted, and on which day. All days,
+/// or those up to the one with the date, where one is given and there is such a day.
 ///
-/// `NoMemory` where an allocation failed, and `Read` where there are 4,294,967,295 records or more.
-pub fn days_of(alloc: Global, input: Input, opening: Day) -> Result<Days, ReplayFault>
-    ensures { IfOk result (AreDays opening (lines_of input)) }
+/// `NoMemory` where an allocation failed, and `Read` where 4,294,967,295 records or more were to be read.
+pub fn days_of(
+    alloc: Global,
+    input: Input,
+    opening: Day,
+    last: Option<Day>,
+) -> Result<Days, ReplayFault>
+    ensures { IfOk result (AreDays opening last (lines_of input)) }
 {
     let mut records = Records::new(alloc, input);
     let mut closes = Vec::new(alloc);
@@ -84,13 +100,18 @@ pub fn days_of(alloc: Global, input: Input, opening: Day) -> Result<Days, Replay
         let Some(next) = next else {
             continue;
         };
+        let read = u64::from(number) + 1;
         let close = Close {
             day: day as u32,
             date: today,
-            number: u64::from(number) + 1,
+            number: read,
             end: records.end(),
         };
         push(&mut closes, close)?;
+        if is_last(&last, today) {
+            let records = read;
+            return Ok(Days { closes, records });
+        }
         today = next;
         day += 1;
     }

@@ -1,13 +1,13 @@
 // Exceptions as rows: invalid records and refused commands, with the reasons.
 ghost use Rattle.std.specs.Prelude.{◌≡◌, ◌++◌, OnOk};
 ghost use Rattle.std.specs.List.{flat_map};
-ghost use Rattle.cns_exceptions.specs.Exceptions.{fact_text, notice_text, put_right_text, reason_text, record_text, seen_text, some_fact_text};
+ghost use Rattle.cns_exceptions.specs.Exceptions.{accepted_text, fact_text, notice_text, put_right_text, reason_text, record_text, seen_text, some_accepted_text, some_fact_text};
 
-use crate::finding::{Cited, Fact, Finding, Outcome};
+use crate::finding::{Accepted, Cited, Fact, Finding, Outcome};
 use crate::words::{fault_name, stage_name};
 use cns_book::Notice;
 use cns_tables::{Piece, TableRow, write_form, write_markup};
-use cns_terms::Trade;
+use cns_terms::Refusal;
 use std::alloc::AllocError;
 
 // A row: the number of the record and what was given, why it is an exception, its facts, and the record that put it right.
@@ -64,22 +64,22 @@ fn write_fact(fact: &Fact, out: &mut Vec<u8>) -> Result<(), AllocError>
             let pieces = [Piece::Count(waiting.bought), Piece::Count(waiting.sold)];
             write_form(WAITING, &pieces, out)
         }
-        Fact::Seen { record, trade } => write_seen(*record, trade, out),
-        Fact::Pending(trade) => {
-            let pieces = [Piece::Number(trade.reference), Piece::Date(trade.date)];
+        Fact::Pending(pend) => {
+            let pieces = [Piece::Number(pend.reference), Piece::Date(pend.date)];
             write_form(PENDING, &pieces, out)
         }
         Fact::Room(room) => write_form(ROOM, &[Piece::Count(*room)], out),
     }
 }
 
-// The trade that has a reference.
-fn write_seen(number: u64, trade: &Trade, out: &mut Vec<u8>) -> Result<(), AllocError>
-    ensures { OnOk result (out.new.items ≡ out.old.items ++ seen_text number trade.now) }
+// The accepted trade that has a reference.
+fn write_seen(accepted: &Accepted, out: &mut Vec<u8>) -> Result<(), AllocError>
+    ensures { OnOk result (out.new.items ≡ out.old.items ++ seen_text accepted.now) }
 {
+    let trade = &accepted.trade;
     let pieces = [
         Piece::Number(trade.reference),
-        Piece::Number(number),
+        Piece::Number(accepted.number),
         Piece::Number(u64::from(trade.buyer.value())),
         Piece::Count(trade.shares.value()),
         Piece::Issue(trade.issue),
@@ -125,13 +125,37 @@ fn write_if_any(fact: &Option<Fact>, out: &mut Vec<u8>) -> Result<(), AllocError
     }
 }
 
-// The record that put an exception right, if one did.
-fn write_put_right(number: Option<u64>, out: &mut Vec<u8>) -> Result<(), AllocError>
-    ensures { OnOk result (out.new.items ≡ out.old.items ++ put_right_text number) }
+// The record that put the one with the number right, where it comes after it.
+fn write_put_right(number: u64, accepted: &Accepted, out: &mut Vec<u8>) -> Result<(), AllocError>
+    ensures { OnOk result (out.new.items ≡ out.old.items ++ put_right_text number accepted.now) }
 {
-    match number {
+    if accepted.number > number {
+        write_form(PUT_RIGHT, &[Piece::Number(accepted.number)], out)
+    } else {
+        Ok(())
+    }
+}
+
+fn write_some_accepted(
+    finding: &Finding,
+    accepted: &Accepted,
+    out: &mut Vec<u8>,
+) -> Result<(), AllocError>
+    ensures { OnOk result (out.new.items ≡ out.old.items ++ some_accepted_text finding.now.record finding.now.outcome accepted.now) }
+{
+    match finding.outcome {
+        Outcome::Refused(Refusal::SeenReference) => write_seen(accepted, out),
+        _ => write_put_right(finding.record, accepted, out),
+    }
+}
+
+// The accepted trade, where the record was refused for its reference; else, if it came later, the record that put this one right.
+fn write_accepted(finding: &Finding, out: &mut Vec<u8>) -> Result<(), AllocError>
+    ensures { OnOk result (out.new.items ≡ out.old.items ++ accepted_text finding.now) }
+{
+    match &finding.accepted {
+        Some(accepted) => write_some_accepted(finding, accepted, out),
         None => Ok(()),
-        Some(number) => write_form(PUT_RIGHT, &[Piece::Number(number)], out),
     }
 }
 
@@ -183,7 +207,7 @@ impl TableRow for Finding {
         write_record(self, out)?;
         write_reason(self, out)?;
         write_facts(&self.facts, out)?;
-        write_put_right(self.put_right, out)?;
+        write_accepted(self, out)?;
         write_markup("\n", out)
     }
 }

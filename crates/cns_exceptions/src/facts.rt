@@ -1,14 +1,17 @@
 // The facts that decided a refusal.
-ghost use Rattle.std.specs.Prelude.{◌≡◌, ℕ, IfSome, List, None, slice_get};
+ghost use Rattle.std.specs.Prelude.{◌≡◌, ◌-◌, ◌^◌, IfSome, List, None, min, slice_get};
+ghost use Rattle.cns_terms.specs.declared.action.Exchange.{Exchange};
 ghost use Rattle.cns_terms.specs.declared.refusal.Refusal.{Refusal};
 ghost use Rattle.cns_book.specs.Log.{state_of};
-ghost use Rattle.cns_exceptions.specs.Facts.{AreShown, IsShown, today_in};
+ghost use Rattle.std.specs.List.{find};
+ghost use Rattle.cns_terms.specs.Sums.{same_issue};
+ghost use Rattle.cns_book.specs.Log.{Log};
+ghost use Rattle.cns_exceptions.specs.Facts.{AreShown, IsShown, today_in, waiting_at};
 ghost use Rattle.cns_exceptions.specs.Survey.{reference_of};
 
-use crate::finding::{Decided, Fact, Facts, NOTHING, Named};
-use crate::sought::{Sought, first, record_at, waiting as waiting_at};
+use crate::finding::{Decided, Fact, Facts, NOTHING, Named, Waiting};
 use cns_feed::ReplayBook;
-use cns_terms::{Activity, Command, Key, Refusal};
+use cns_terms::{Activity, Command, Exchange, Key, Pend, Refusal};
 use cns_units::{Account, Cusip};
 
 fn named(account: Option<Account>, issue: Option<Cusip>, notice: Option<u32>) -> Named
@@ -69,7 +72,7 @@ pub fn names_of(command: &Command) -> Named
 
 // An issue's price now.
 fn price(book: &ReplayBook, issue: Option<Cusip>) -> Option<Fact>
-    ensures { (ns : List ℕ) (r : Refusal) → IfSome result (IsShown ns book.now.log r) }
+    ensures { (xs : List Exchange) (r : Refusal) → IfSome result (IsShown xs book.now.log r) }
 {
     let issue = issue?;
     let price = book.price(issue).map(|price| price.value());
@@ -78,64 +81,93 @@ fn price(book: &ReplayBook, issue: Option<Cusip>) -> Option<Fact>
 
 // An account's position in an issue now.
 fn position(book: &ReplayBook, account: Option<Account>, issue: Option<Cusip>) -> Option<Fact>
-    ensures { (ns : List ℕ) (r : Refusal) → IfSome result (IsShown ns book.now.log r) }
+    ensures { (xs : List Exchange) (r : Refusal) → IfSome result (IsShown xs book.now.log r) }
 {
     let (account, issue) = (account?, issue?);
     let position = book.position(account, issue).map(|holding| holding.now);
     Some(Fact::Position(Key { account, issue }, position))
 }
 
+// A sum of shares, as far as a figure goes.
+fn figure_of(shares: u128) -> u64
+    ensures { result ≡ min shares (2 ^ 64 - 1) }
+{
+    shares.min(u128::from(u64::MAX)) as u64
+}
+
+// What waits at a place.
+fn waiting_at(book: &ReplayBook, key: Key) -> Waiting
+    ensures { result ≡ waiting_at book.now.log key }
+{
+    let sides = book.pending().sides(key.account, key.issue);
+    Waiting {
+        key,
+        bought: figure_of(sides.bought),
+        sold: figure_of(sides.sold),
+    }
+}
+
 // What waits beside it.
 fn waiting(book: &ReplayBook, account: Option<Account>, issue: Option<Cusip>) -> Option<Fact>
-    ensures { (ns : List ℕ) → IfSome result (IsShown ns book.now.log Refusal.TooLarge) }
+    ensures { (xs : List Exchange) → IfSome result (IsShown xs book.now.log Refusal.TooLarge) }
 {
-    Some(Fact::Waiting(waiting_at(book, account?, issue?)))
+    let (account, issue) = (account?, issue?);
+    Some(Fact::Waiting(waiting_at(book, Key { account, issue })))
+}
+
+// The exchange of an issue, among the accepted ones.
+fn exchange_of(exchanges: &[Exchange], issue: &Cusip) -> Option<Exchange>
+    ensures { result ≡ find (λ x. same_issue x.old issue.now) exchanges.now }
+{
+    exchanges
+        .iter()
+        .find(|exchange| exchange.old.is_same(issue))
+        .copied()
 }
 
 // The exchange that retired an issue.
-fn exchanged(book: &ReplayBook, issue: Option<Cusip>) -> Option<Fact>
-    ensures { (ns : List ℕ) → IfSome result (IsShown ns book.now.log Refusal.Retired) }
+fn exchanged(exchanges: &[Exchange], issue: Option<Cusip>) -> Option<Fact>
+    ensures { (log : Log) → IfSome result (IsShown exchanges.now log Refusal.Retired) }
 {
-    match first(book, &Sought::Exchange(issue?)) {
-        Some((_, Activity::Exchange(exchange))) => Some(Fact::Exchanged(exchange)),
-        _ => None,
-    }
+    let issue = &issue?;
+    Some(Fact::Exchanged(exchange_of(exchanges, issue)?))
 }
 
-// The accepted trade that has a reference, by the numbers of the invalid records.
-fn seen(book: &ReplayBook, invalid: &[u64], reference: Option<u64>) -> Option<Fact>
-    ensures { IfSome result (IsShown invalid.now book.now.log Refusal.SeenReference) }
+// The first of trades in an issue.
+fn first_in(trades: &[Pend], issue: &Cusip) -> Option<Pend>
+    ensures { result ≡ find (λ p. same_issue p.issue issue.now) trades.now }
 {
-    match first(book, &Sought::Reference(reference?)) {
-        Some((place, Activity::Trade(trade))) => {
-            let record = record_at(invalid, place);
-            Some(Fact::Seen { record, trade })
-        }
-        _ => None,
-    }
+    trades
+        .iter()
+        .find(|trade| trade.issue.is_same(issue))
+        .copied()
 }
 
 // The first pending trade in an issue.
 fn pending(book: &ReplayBook, issue: Option<Cusip>) -> Option<Fact>
-    ensures { (ns : List ℕ) → IfSome result (IsShown ns book.now.log Refusal.PendingTrades) }
+    ensures { (xs : List Exchange) → IfSome result (IsShown xs book.now.log Refusal.PendingTrades) }
 {
-    match first(book, &Sought::Pending(issue?, book.today())) {
-        Some((_, Activity::Trade(trade))) => Some(Fact::Pending(trade)),
-        _ => None,
-    }
+    let issue = &issue?;
+    let trades = book.pending().list();
+    Some(Fact::Pending(first_in(trades, issue)?))
 }
 
 // A notice as it stands now.
 fn notice(book: &ReplayBook, number: Option<u32>) -> Option<Fact>
-    ensures { (ns : List ℕ) (r : Refusal) → IfSome result (IsShown ns book.now.log r) }
+    ensures { (xs : List Exchange) (r : Refusal) → IfSome result (IsShown xs book.now.log r) }
 {
     let number = number?;
     Some(Fact::Notice(number, book.notice(number)?))
 }
 
 // What else a refusal looks at than the day and a notice.
-fn decided(book: &ReplayBook, invalid: &[u64], named: &Named, refusal: Refusal) -> Decided
-    ensures { AreShown invalid.now book.now.log refusal result }
+fn decided(
+    book: &ReplayBook,
+    exchanges: &[Exchange],
+    named: &Named,
+    refusal: Refusal,
+) -> Decided
+    ensures { AreShown exchanges.now book.now.log refusal result }
 {
     match refusal {
         Refusal::IssueExists | Refusal::NoSuchIssue => {
@@ -149,8 +181,8 @@ fn decided(book: &ReplayBook, invalid: &[u64], named: &Named, refusal: Refusal) 
         Refusal::Retired => [
             price(book, named.issue),
             price(book, named.successor),
-            exchanged(book, named.issue),
-            exchanged(book, named.successor),
+            exchanged(exchanges, named.issue),
+            exchanged(exchanges, named.successor),
         ],
         Refusal::NoSuchMember | Refusal::ExceedsPosition | Refusal::NotOnHand | Refusal::NotLong =>
             [
@@ -165,21 +197,25 @@ fn decided(book: &ReplayBook, invalid: &[u64], named: &Named, refusal: Refusal) 
             position(book, named.beside, named.issue),
             waiting(book, named.beside, named.issue),
         ],
-        Refusal::SeenReference => [seen(book, invalid, named.reference), None, None, None],
         Refusal::PendingTrades => [pending(book, named.issue), None, None, None],
         Refusal::NotLiable { room } => [Some(Fact::Room(room)), None, None, None],
         _ => [None, None, None, None],
     }
 }
 
-/// What decided that the book refused the command, by the numbers of the invalid records so far. A refusal changes nothing that the
-/// book's calls tell, so the book is asked after it.
-pub fn facts_of(book: &ReplayBook, invalid: &[u64], command: &Command, refusal: Refusal) -> Facts
+/// What decided that the book refused the command, by the accepted exchanges so far. A refusal changes nothing that the book's calls
+/// tell, so the book is asked after it.
+pub fn facts_of(
+    book: &ReplayBook,
+    exchanges: &[Exchange],
+    command: &Command,
+    refusal: Refusal,
+) -> Facts
     ensures today { slice_get result 0 ≡ Some (Some (today_in (state_of book.now.log))) }
-    ensures shown { AreShown invalid.now book.now.log refusal result }
+    ensures shown { AreShown exchanges.now book.now.log refusal result }
 {
     let named = names_of(command);
-    let others = decided(book, invalid, &named, refusal);
+    let others = decided(book, exchanges, &named, refusal);
     let number = match refusal {
         Refusal::AlreadyNoticed { number } => Some(number),
         _ => named.notice,

@@ -1,10 +1,10 @@
 // An exception: an invalid record, or a refused command.
 ghost use Rattle.std.specs.Prelude.{◌≡◌};
-ghost use Rattle.cns_exceptions.specs.Survey.{names, put_right};
+ghost use Rattle.cns_exceptions.specs.Survey.{names};
 
 use cns_book::Notice;
 use cns_feed::LineFault;
-use cns_terms::{Exchange, Key, Refusal, Trade};
+use cns_terms::{Exchange, Key, Pend, Refusal, Trade};
 use cns_units::{Account, Cusip, Day};
 
 /// A record that is no command, or a command that was refused.
@@ -21,8 +21,16 @@ pub struct Finding {
     pub facts: Facts,
     /// What the command names; a record that is no command names nothing.
     pub named: Named,
-    /// The number of the first later record whose trade has the same reference and was accepted, if there is one.
-    pub put_right: Option<u64>,
+    /// The accepted trade with the reference of a refused one: before it, where it was refused for that, or after it, which put it
+    /// right.
+    pub accepted: Option<Accepted>,
+}
+
+/// An accepted trade, with the number of its record, from 1.
+#[derive(Clone, Copy)]
+pub struct Accepted {
+    pub number: u64,
+    pub trade: Trade,
 }
 
 /// An exception of the day on the page of an account that it names.
@@ -37,15 +45,6 @@ impl Finding {
         ensures { result ≡ names account self.now }
     {
         self.named.account == Some(account) || self.named.other == Some(account)
-    }
-
-    /// Notes that the trade of a record with the number was accepted, where it has the reference, and none before it had.
-    pub(crate) fn put_right(&mut self, reference: u64, number: u64)
-        ensures { self.new ≡ put_right number reference self.old }
-    {
-        if self.put_right.is_none() && self.named.reference == Some(reference) {
-            self.put_right = Some(number);
-        }
     }
 }
 
@@ -109,10 +108,8 @@ pub enum Fact {
     /// A position in shares; None where the account is no member's nor the corporation's, or the issue is not listed.
     Position(Key, Option<i64>),
     Waiting(Waiting),
-    /// The accepted trade that has a reference, and the number of its record, from 1.
-    Seen { record: u64, trade: Trade },
     /// The first of an issue's trades that are pending, in the order in which they were taken.
-    Pending(Trade),
+    Pending(Pend),
     /// How many shares the liable members can be given.
     Room(u64),
 }
@@ -120,8 +117,7 @@ pub enum Fact {
 /// What an account is to get and to give in an issue by pending trades, in shares.
 #[derive(Clone, Copy)]
 pub struct Waiting {
-    pub account: Account,
-    pub issue: Cusip,
+    pub key: Key,
     pub bought: u64,
     pub sold: u64,
 }

@@ -1,11 +1,13 @@
 // What the records of an input come to, one after another.
-ghost use Rattle.std.specs.Prelude.{◌≡◌, ◌<◌, ◌+◌, ◌-◌, ◌^◌, if◌then◌else◌, None, OnOk, Some, length, map, min, nat_lt, option_map};
-ghost use Rattle.cns_exceptions.specs.Survey.{counted, is_question, known, nothing, one_invalid, put_right, ranked, reference_of, replied, righted, wanted};
+ghost use Rattle.std.specs.Prelude.{◌≡◌, ◌<◌, ◌+◌, ◌-◌, ◌^◌, if◌then◌else◌, None, OnOk, Some, length, min, nat_lt, option_map};
+ghost use Rattle.cns_exceptions.specs.Survey.{counted, is_question, known, looked_back, nothing, one_invalid, ranked, replied, wanted};
 
+use crate::accepted::note_accepted;
 use crate::facts::{facts_of, names_of};
 use crate::finding::{Facts, Finding, NO_FACTS, NOTHING, Outcome};
 use crate::given::given;
 use crate::words::{fault_words, refusal_words};
+use cns_account::Past;
 use cns_feed::{LineFault, ReplayBook};
 use cns_terms::{Command, NoMemory, Refusal, Reply};
 use std::alloc::Global;
@@ -30,6 +32,8 @@ pub struct Survey {
     pub questions: Vec<Finding>,
     /// The numbers of the invalid records, in order.
     pub invalid: Vec<u64>,
+    /// What replies told of closed days, exchanges and dividends.
+    pub past: Past,
 }
 
 impl Survey {
@@ -45,6 +49,7 @@ impl Survey {
             findings: Vec::new(alloc),
             questions: Vec::new(alloc),
             invalid: Vec::new(alloc),
+            past: Past::new(alloc),
         }
     }
 
@@ -84,7 +89,8 @@ impl Survey {
         self.reasons.len() as u64
     }
 
-    /// Notes the reply to a command, whose record has the text: a refusal with what decided it, or what was put right.
+    /// Notes the reply to a command, whose record has the text: what it tells of days, exchanges and dividends, and a
+    /// refusal with what decided it.
     pub(crate) fn note(
         &mut self,
         book: &ReplayBook,
@@ -94,26 +100,10 @@ impl Survey {
     ) -> Result<(), NoMemory>
         ensures { OnOk result (known self.new ≡ replied (known self.old) command.now reply.now) }
     {
+        self.past.note(command, reply)?;
         match reply {
             Reply::Refused(refusal) => self.note_refusal(book, text, command, *refusal),
-            Reply::Accepted => {
-                self.note_accepted(command);
-                Ok(())
-            }
             _ => Ok(()),
-        }
-    }
-
-    // Notes of the exceptions with the reference of a trade that it was accepted.
-    #[tactic(auto, using(crate::proofs::Gathered::findings_righted))]
-    fn note_accepted(&mut self, command: &Command)
-        ensures { known self.new ≡ righted (known self.old) (reference_of command.now) }
-    {
-        match names_of(command).reference {
-            Some(reference) => {
-                put_right_each(self.findings.as_mut_slice(), reference, self.records);
-            }
-            None => {}
         }
     }
 
@@ -127,7 +117,7 @@ impl Survey {
         ensures { OnOk result (known self.new ≡ wanted (known self.old) (Outcome.Refused refusal) (Some command.now)) }
     {
         let facts = if self.is_looking() && self.has_room(is_question(command)) {
-            facts_of(book, self.invalid.as_slice(), command, refusal)
+            facts_of(book, self.past.exchanges.as_slice(), command, refusal)
         } else {
             NO_FACTS
         };
@@ -183,7 +173,7 @@ impl Survey {
             words,
             facts,
             named: command.map_or(NOTHING, names_of),
-            put_right: None,
+            accepted: None,
         };
         if is_question {
             self.questions.push(finding)?;
@@ -202,6 +192,16 @@ impl Survey {
         self.findings.append(&mut self.questions)?;
         Ok(())
     }
+
+    /// Notes in the exceptions the accepted trades that have their references, of the book's history.
+    pub(crate) fn look_back(&mut self, book: &ReplayBook) -> Result<(), NoMemory>
+        ensures { OnOk result (known self.new ≡ looked_back book.now.log.history (known self.old)) }
+    {
+        let alloc = *self.findings.allocator();
+        let invalid = self.invalid.as_slice();
+        note_accepted(alloc, book, invalid, self.findings.as_mut_slice())?;
+        Ok(())
+    }
 }
 
 // Whether a command asks and changes nothing.
@@ -209,13 +209,4 @@ fn is_question(command: &Command) -> bool
     ensures { result ≡ is_question command.now }
 {
     !matches!(command, Command::Activity(_))
-}
-
-// Notes of each exception with the reference that the trade of a record with the number was accepted.
-fn put_right_each(findings: &mut [Finding], reference: u64, number: u64)
-    ensures { findings.new ≡ map (put_right number reference) findings.old }
-{
-    for finding in findings.iter_mut() {
-        finding.put_right(reference, number);
-    }
 }

@@ -1,9 +1,9 @@
 // The entries of a book's history, one after another.
 ghost use Rattle.std.specs.Prelude.{◌≡◌, Option};
-ghost use Rattle.cns_history.specs.Entries.{looked_at};
+ghost use Rattle.cns_history.specs.Entries.{looked_at, trade_of};
 
 use cns_feed::ReplayBook;
-use cns_terms::Taken;
+use cns_terms::{Activity, Command, Reply, Taken, Trade};
 use std::marker::Model;
 
 /// An iterator over the entries of a book's history, the oldest first. Contracts see the entries that it has left.
@@ -30,6 +30,16 @@ pub fn entries_of(book: &ReplayBook) -> Entries<'_>
     ensures { result ≡ looked_at book.now.log.history }
 {
     Entries { book, passed: 0 }
+}
+
+/// The trade of an entry, where it was accepted.
+pub fn accepted_trade(entry: &Taken) -> Option<Trade>
+    ensures { result ≡ trade_of entry.now }
+{
+    match (&entry.command, &entry.reply) {
+        (Command::Activity(Activity::Trade(trade)), Reply::Accepted) => Some(*trade),
+        _ => None,
+    }
 }
 
 impl<'a> Iterator for Entries<'a> {

@@ -14,7 +14,7 @@ mod play;
 mod told;
 mod words;
 
-pub use entries::{Entries, entries_of};
+pub use entries::{Entries, accepted_trade, entries_of};
 pub use everywhere::{accounts_in, issues_of};
 pub use line::{Booking, Closing, HistoryLine, lines_for, worth};
 pub use play::{Watched, Whose, take_watched};

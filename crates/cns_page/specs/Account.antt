@@ -49,7 +49,7 @@ shows_marks t rows = shown position_text t.positions rows ∷ shown mark_text t.
 
 -- a short, with its first close and what the price did to it since
 abbrev pub fail_at : ClosedDay → Aged → Fail
-fail_at d s = fail (state_of d.source.played.book.log) d.shared.past d.close.date s.row s.age
+fail_at d s = fail (state_of d.source.played.book.log) d.source.played.survey.past d.close.date s.row s.age
 
 -- its fails: its shorts among those of all members
 abbrev pub own_fails : Account → ClosedDay → List Fail
@@ -59,7 +59,7 @@ own_fails a d = map (fail_at d) (filter (λ s. s.row.account == a) d.shared.shor
 abbrev pub shows_shorts : OwnCaptions → Account → ClosedDay → List (List ℕ × ℕ)
 shows_shorts t a d =
     let S = state_of d.source.played.book.log in
-    shown dividend_text t.dividends (dividends_paid S d.shared.past a (arc_value d.sheet))
+    shown dividend_text t.dividends (dividends_paid S d.source.played.survey.past a (arc_value d.sheet))
     ∷ shown projected_text t.due (projected_all S a d.shared.later (arc_value d.sheet).prices) ∷ shown fail_text t.fails (own_fails a d) ∷ []
 
 -- whether a trade is the account's

@@ -1,19 +1,14 @@
 -- The page that is asked for.
 use Rattle.std.specs.Prelude.{◌≡◌, ℕ, List, [], Option, None, Some, Bool, true, false}
-use Rattle.cns_page.specs.Common.{Account, Appends, Day, About, Asked, When, ClosedDay, Source}
+use Rattle.cns_page.specs.Common.{Account, Appends, About, Asked, When, ClosedDay, Source}
 use Rattle.cns_page.specs.Account.{IsOwnPage}
 use Rattle.cns_page.specs.Closed.{IsClosedDay, is_folder}
 use Rattle.cns_page.specs.Files.{KeptPages}
 use Rattle.cns_page.specs.Folder.{KeepsDay}
 use Rattle.cns_page.specs.History.{IsHistoryPage}
 use Rattle.cns_page.specs.Page.{IsDayPage}
-use Rattle.cns_page.specs.Source.{IsSource}
+use Rattle.cns_page.specs.Source.{IsSource, closed_date}
 use Rattle.cns_page.specs.Today.{IsTodayPage}
-
--- the date of the closed day that is asked for, if one is given
-abbrev pub day_of : When → Option Day
-day_of (When.Closed d) = Some d
-day_of _ = None
 
 -- a text is the page of a closed day, of all accounts or of one
 abbrev pub IsDayOf : Option Account → ClosedDay → List ℕ → Type 0
@@ -27,7 +22,7 @@ IsClosedPage account asked s text = (d : ClosedDay) × IsClosedDay asked s d × 
 -- a text is the page that is asked for, of its records: the history of a place, the page of an account, or that of all accounts, of the
 -- open day or of a closed one
 abbrev pub IsPage : About → When → Asked → Source → List ℕ → Type 0
-IsPage (About.Place k) w asked s text = IsHistoryPage k (day_of w) s text
+IsPage (About.Place k) w asked s text = IsHistoryPage k (closed_date w) s text
 IsPage (About.Account a) w asked s text = IsClosedPage (Some a) asked s text
 IsPage About.All When.Today asked s text = IsTodayPage s text
 IsPage _ w asked s text = IsClosedPage None asked s text

@@ -2,7 +2,6 @@
 use Rattle.std.specs.Prelude.{◌≡◌, Bool, true, false, List, Option, Some, option_map}
 use Rattle.std.specs.Arc.{arc_value}
 use Rattle.cns_page.specs.Common.{nat_cmp, Day, DaySheet, journal_of, sheet_on, state_of, About, Asked, AreMoves, Close, ClosedDay, Played, Shared, Source}
-use Rattle.cns_account.specs.Past.{IsPast}
 use Rattle.cns_day.specs.Due.{AreLater}
 use Rattle.cns_day.specs.Listed.{AreDue, IsInOrderOf, liable_shown, live_shown, looked_at, shorts_among}
 use Rattle.cns_page.specs.Source.{asked_close, close_before}
@@ -25,7 +24,6 @@ pub record AreShared (p : Played) (before : Option Day) (c : Close) (sheet : Day
   pub trades : AreDue p.book.log sheet.date g.trades.items
   pub later : AreLater g.trades.items g.later
   pub moves : AreMoves before c.date (looked_at p.book.log.history) p.lines.items g.moves
-  pub past : IsPast (looked_at p.book.log.history) g.past
 
 -- the closed day that is asked for, of its records
 pub record IsClosedDay (asked : Asked) (s : Source) (d : ClosedDay) : Type 0 where

@@ -1,18 +1,18 @@
 -- The records of an input that a page is of.
-use Rattle.std.specs.Prelude.{◌≡◌, ℕ, ◌-◌, ◌^◌, List, length, map, nat_lt, slice_get, take, Option, None, Some, if◌then◌else◌, option_and_then, option_map}
+use Rattle.std.specs.Prelude.{◌≡◌, ℕ, ◌-◌, ◌^◌, List, length, nat_lt, slice_get, take, Option, None, Some, if◌then◌else◌, option_and_then, option_map}
 use Rattle.std.specs.Option.{option_map_or}
-use Rattle.cns_page.specs.Common.{Close, Day, ended, is_same_day, lines_of, opened, About, Asked, Source, Watched, When, Whose}
-use Rattle.cns_exceptions.specs.Days.{closed_in}
+use Rattle.cns_page.specs.Common.{Close, Day, is_same_day, lines_of, About, Asked, Source, Watched, When, Whose}
+use Rattle.cns_exceptions.specs.Days.{AreDays}
 use Rattle.cns_exceptions.specs.Survey.{ComesTo}
 use Rattle.cns_page.specs.Foot.{IsOrigin}
 use Rattle.cns_page.specs.declared.source.Part.{Part}
 
 -- ---- closes
 
--- some of the first, where a date is given; else all
-abbrev pub IsFront : {X : Type 0} → When → List X → List X → Type 0
-IsFront (When.Closed d) all front = front ≡ take (length front) all
-IsFront w all front = front ≡ all
+-- the date of the closed day that is asked for, if one is given
+abbrev pub closed_date : When → Option Day
+closed_date (When.Closed d) = Some d
+closed_date _ = None
 
 abbrev pub last_close : List Close → Option Close
 last_close closes = slice_get closes (length closes - 1)
@@ -33,7 +33,7 @@ number_of o = option_map_or (λ c. c.number) o 0
 
 -- ---- records
 
--- how far they go, of which there are so many in all: up to the close of the day that is asked for, those after the close before looked at;
+-- how far they go, of which so many were read: up to the close of the day that is asked for, those after the close before looked at;
 -- or all, those after the last close looked at
 abbrev pub part_of : When → List Close → ℕ → Option Part
 part_of When.Today closes n = Some (record { from = number_of (last_close closes); records = n; bytes = 2 ^ 64 - 1 })
@@ -54,8 +54,9 @@ watched_for about c = option_map_or (λ c. watched_on about c.date) c Watched.No
 -- the origin is that of the part's bytes
 pub record IsSource (asked : Asked) (input : List ℕ) (s : Source) : Type 0 where
   pub opened_on : s.opening ≡ asked.opening
-  pub closes : IsFront asked.day (closed_in 0 (opened asked.opening) (lines_of input)) (map ended s.closes.items)
+  pub read : ℕ
+  pub closes : AreDays asked.opening (closed_date asked.day) (lines_of input) (record { closes = s.closes; records = read })
   pub part : Part
-  pub is_part : part_of asked.day s.closes.items (length (lines_of input)) ≡ Some part
+  pub is_part : part_of asked.day s.closes.items read ≡ Some part
   pub made_of : IsOrigin (take part.bytes input) s.origin
   pub played : ComesTo asked.opening part.from (watched_for asked.about (asked_close asked.day s.closes.items)) (take part.records (lines_of input)) s.played

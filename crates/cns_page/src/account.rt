@@ -1,7 +1,7 @@
 // The page of an account's closed day: a head, tables in a fixed order, and a foot.
 ghost use Rattle.std.specs.Prelude.{◌==◌, ◌≡◌, ◌∷◌, [], ◌++◌, IfOk, OnOk, filter, map};
 ghost use Rattle.cns_exceptions.specs.Survey.{names};
-ghost use Rattle.cns_page.specs.Account.{IsHeaded, IsOwnPage, ShowsRecords, account_rows, fail_at, head_text, is_party, nav_text, own_fails, shows_coming, shows_marks, shows_shorts};
+ghost use Rattle.cns_page.specs.Account.{IsHeaded, IsOwnPage, ShowsRecords, account_rows, head_text, is_party, nav_text, own_fails, shows_coming, shows_marks, shows_shorts};
 ghost use Rattle.cns_tables.specs.Tables.{HasMore};
 
 use crate::asked::About;
@@ -12,7 +12,7 @@ use cns_account::{
     AccountRow, BOOKINGS, DIVIDENDS, FAILS, Fail, MARKS, POSITIONS, Totals, bookings_in,
     dividends_of, fail_of, marks_of, rows_of, totals_of,
 };
-use cns_day::{Aged, Due, Numbered, Owing, projected_all};
+use cns_day::{Due, Numbered, Owing, projected_all};
 use cns_exceptions::{Cited, Finding};
 use cns_history::lines_for;
 use cns_tables::{Page, Piece, START, Table, page_style, write_form, write_markup};
@@ -180,32 +180,22 @@ fn write_marks(
     Ok(())
 }
 
-// Shorts, each with its first close and what the price did to it since.
-fn fails_of(alloc: Global, day: &ClosedDay, shorts: &[Aged]) -> Result<Vec<Fail>, NoMemory>
-    ensures { IfOk result (λ v. v.items ≡ map (fail_at day.now) shorts.now) }
-{
-    let book = &day.source.played.book;
-    let past = &day.shared.past;
-    let mut fails = Vec::new(alloc);
-    for short in shorts {
-        let fail = fail_of(alloc, book, past, day.close.date, &short.row, short.age)?;
-        fails.push(fail)?;
-    }
-    Ok(fails)
-}
-
-// The account's fails.
+// The account's fails: its shorts among those of all members, each with its first close and what the price did to it since.
 fn own_fails(alloc: Global, account: Account, day: &ClosedDay) -> Result<Vec<Fail>, NoMemory>
     ensures { IfOk result (λ v. v.items ≡ own_fails account day.now) }
 {
-    let shorts: Vec<Aged> = day
-        .shared
-        .shorts
-        .iter()
-        .copied()
-        .filter(|short| short.row.account == account)
-        .collect(alloc)?;
-    fails_of(alloc, day, shorts.as_slice())
+    let played = &day.source.played;
+    let shorts = day.shared.shorts.as_slice();
+    let mut fails = Vec::new(alloc);
+    for short in shorts {
+        if short.row.account != account {
+            continue;
+        }
+        let (date, row) = (day.close.date, &short.row);
+        let fail = fail_of(alloc, &played.book, &played.survey.past, date, row, short.age)?;
+        fails.push(fail)?;
+    }
+    Ok(fails)
 }
 
 // Adds dividends, what is due, and fails.
@@ -219,7 +209,8 @@ fn write_shorts(
     ensures { OnOk result (HasMore (shows_shorts captions.now account day.now) page.old page.new) }
 {
     let book = &day.source.played.book;
-    let dividends = dividends_of(alloc, book, &day.shared.past, &day.sheet, account)?;
+    let past = &day.source.played.survey.past;
+    let dividends = dividends_of(alloc, book, past, &day.sheet, account)?;
     let due = projected_all(alloc, book, &day.sheet, account, &day.shared.later)?;
     let fails = own_fails(alloc, account, day)?;
     page.table(&captions.dividends, dividends.as_slice())?;

@@ -1,6 +1,7 @@
 // The line of the program, and what it asks for.
 ghost use Rattle.std.specs.Prelude.{◌≡◌, IfOk, IfSome, map, option_map};
 ghost use Rattle.clap.specs.Words.{app_of, found_of, rows_of};
+ghost use Rattle.cns_page.specs.Source.{closed_date};
 ghost use Rattle.cns_page.specs.Asks.{about_read, asked_in, dated_line, day_read, folder_in, found_by, page_line, question};
 
 use clap::{ArgMatches, Command};
@@ -42,6 +43,16 @@ pub enum About {
     Place(Key),
     /// All accounts and each of them: the pages of a day, as files of a folder.
     Folder,
+}
+
+/// The date of the closed day that is asked for, if one is given.
+pub(crate) fn closed_date(when: When) -> Option<Day>
+    ensures { result ≡ closed_date when }
+{
+    match when {
+        When::Closed(day) => Some(day),
+        _ => None,
+    }
 }
 
 // The options for the book and for the day, with no help or version.

@@ -4,7 +4,7 @@ ghost use Rattle.cns_page.specs.Closed.{AreShared, IsClosedDay, date_before, is_
 
 use crate::asked::{About, Asked};
 use crate::source::{Source, asked_close, close_before};
-use cns_account::{DayMoves, Past, moves_of_day, past_of};
+use cns_account::{DayMoves, moves_of_day};
 use cns_day::{
     Aged, Due, Later, Numbered, Owing, dues_of, later_shares, liable_members, live_notices,
     shorts_of,
@@ -31,8 +31,6 @@ pub struct Shared {
     pub later: Later,
     /// What moved each position on the day.
     pub moves: DayMoves,
-    /// What the pages of accounts read of the history.
-    pub past: Past,
 }
 
 /// A closed day, of the records up to its close alone, with what its pages show.
@@ -78,7 +76,6 @@ fn shared_of(
     let trades = dues_of(alloc, book, sheet.date())?;
     let later = later_shares(alloc, trades.as_slice())?;
     let moves = moves_of_day(alloc, book, before, close.date, played.lines.as_slice())?;
-    let past = past_of(alloc, book)?;
     Ok(Shared {
         shorts,
         liable,
@@ -86,7 +83,6 @@ fn shared_of(
         trades,
         later,
         moves,
-        past,
     })
 }
 

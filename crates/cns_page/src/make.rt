@@ -1,10 +1,10 @@
 // The page that is asked for, of the records of an input.
 ghost use Rattle.std.specs.Prelude.{◌≡◌, IfOk, OnOk};
 ghost use Rattle.std.specs.Io.KnownBytes.{Appends};
-ghost use Rattle.cns_page.specs.Asked.{HasKept, HasPage, IsClosedPage, IsPage, day_of};
+ghost use Rattle.cns_page.specs.Asked.{HasKept, HasPage, IsClosedPage, IsPage};
 
 use crate::account::own_page;
-use crate::asked::{About, Asked, When};
+use crate::asked::{About, Asked, When, closed_date};
 use crate::closed::{ClosedDay, closed_day, is_folder};
 use crate::files::Keeps;
 use crate::folder::keep_day;
@@ -15,7 +15,7 @@ use crate::today::today_page;
 use cns_exceptions::Input;
 use cns_shell::Fault;
 use cns_terms::Key;
-use cns_units::{Account, Day, write_bytes};
+use cns_units::{Account, write_bytes};
 use std::alloc::Global;
 use std::io::Write;
 
@@ -46,16 +46,6 @@ fn closed_page(
     }
 }
 
-// The date of the closed day that is asked for, if one is given.
-fn day_of(when: When) -> Option<Day>
-    ensures { result ≡ day_of when }
-{
-    match when {
-        When::Closed(day) => Some(day),
-        _ => None,
-    }
-}
-
 // The page that is asked for, of its records; that of all accounts, where it is for a folder.
 fn page_of(alloc: Global, asked: &Asked, source: Source) -> Result<Vec<u8>, Fault>
     ensures { IfOk result (λ v. IsPage asked.now.about asked.now.day asked.now source v.items) }
@@ -63,7 +53,7 @@ fn page_of(alloc: Global, asked: &Asked, source: Source) -> Result<Vec<u8>, Faul
     match (asked.about, asked.day) {
         (About::Place(key), when) => {
             check_place(&source.played.book, &key)?;
-            Ok(history_page(alloc, &key, day_of(when), &source)?)
+            Ok(history_page(alloc, &key, closed_date(when), &source)?)
         }
         (About::Account(account), _) => closed_page(alloc, asked, Some(account), source),
         (About::All, When::Today) => Ok(today_page(alloc, &source)?),

@@ -1,10 +1,10 @@
 // The records of an input that a page is of, played on a book.
 ghost use Rattle.std.specs.Prelude.{◌≡◌, IfOk};
-ghost use Rattle.cns_page.specs.Source.{IsFront, IsSource, asked_close, close_before, last_close, number_of, part_of, watched_for, watched_on};
+ghost use Rattle.cns_page.specs.Source.{IsSource, asked_close, close_before, last_close, number_of, part_of, watched_for, watched_on};
 
-use crate::asked::{About, Asked, When};
+use crate::asked::{About, Asked, When, closed_date};
 use crate::foot::{Origin, origin_of};
-use cns_exceptions::{Close, Input, Played, days_of, play_first};
+use cns_exceptions::{Close, Days, Input, Played, days_of, play_first};
 use cns_history::{Watched, Whose};
 use cns_shell::Fault;
 use cns_units::Day;
@@ -16,7 +16,7 @@ use std::io::Read;
 pub struct Source {
     /// The date on which the book was opened.
     pub opening: Day,
-    /// The accepted closes, in order: those up to the close of the day that is asked for, or all where the day is open.
+    /// The accepted closes, in order: those up to the close of the day that is asked for, or all where no date is given.
     pub closes: Vec<Close>,
     /// What the records came to, with the lines of what was watched.
     pub played: Played,
@@ -32,18 +32,6 @@ pub struct Part {
     pub records: u64,
     /// How many bytes of the input they take at most.
     pub bytes: u64,
-}
-
-// The closes up to that of the day that is asked for, where there is one; else some of the first ones. All, where no date is given.
-fn front_to(closes: Vec<Close>, when: When) -> Vec<Close>
-    ensures { IsFront when closes.items result.items }
-{
-    let mut closes = closes;
-    if let When::Closed(day) = when {
-        let place = closes.iter().position(|close| close.date == day);
-        closes.truncate(place.unwrap_or(0).saturating_add(1));
-    }
-    closes
 }
 
 fn last_close(closes: &[Close]) -> Option<Close>
@@ -83,8 +71,8 @@ fn number_of(close: Option<Close>) -> u64
     }
 }
 
-// How far the records go, of which there are so many in all: up to the close of the day that is asked for, or to the last one where
-// the day is open. None where there is no such close.
+// How far the records go, of which so many were read: up to the close of the day that is asked for, or to the last one where the day
+// is open. None where there is no such close.
 fn part_of(closes: &[Close], when: When, records: u64) -> Option<Part>
     ensures { result ≡ part_of when closes.now records }
 {
@@ -130,14 +118,18 @@ fn watched_for(about: About, close: Option<Close>) -> Watched
 /// The records that the page is of which is asked for, played once: those up to the close of the day, and all where the day is open.
 /// Where the days end is found by their closes alone. The input's memory is given back as its records are played.
 ///
-/// `NoMemory` where an allocation failed, `Read` where there are 4,294,967,295 records or more, and `NoSuchDay` where no closed day has
-/// the date, or none is closed.
+/// `NoMemory` where an allocation failed, `Read` where there are 4,294,967,295 records or more up to that close, and `NoSuchDay` where
+/// no closed day has the date, or none is closed.
 pub(crate) fn source_of(alloc: Global, asked: &Asked, input: Input) -> Result<Source, Fault>
     ensures { IfOk result (IsSource asked.now input) }
 {
-    let days = days_of(alloc, input.copied(alloc)?, asked.opening)?;
-    let records = days.records;
-    let closes = front_to(days.closes, asked.day);
+    let days = days_of(
+        alloc,
+        input.copied(alloc)?,
+        asked.opening,
+        closed_date(asked.day),
+    )?;
+    let Days { closes, records } = days;
     let Some(part) = part_of(closes.as_slice(), asked.day, records) else {
         return Err(Fault::NoSuchDay);
     };

@@ -1,5 +1,5 @@
 // What the parts show.
-ghost use Rattle.std.specs.Prelude.{◌≡◌, ◌≤◌, Some, None, option_map, unsigned_abs, if◌then◌else◌};
+ghost use Rattle.std.specs.Prelude.{◌≡◌, ◌≤◌, Some, None, option_map, reverse, unsigned_abs, if◌then◌else◌};
 ghost use Rattle.std.specs.Arc.{arc_value};
 ghost use Rattle.std.specs.Option.{ForSome, option_copied};
 ghost use Rattle.cns_terms.specs.declared.command.Command.TheVariants as command;
@@ -9,6 +9,7 @@ ghost use Rattle.cns_terms.specs.Limits.{position_limit};
 ghost use Rattle.cns_terms.specs.Listings.{is_account, is_listed, is_member, is_retired};
 ghost use Rattle.cns_terms.specs.Holdings.{holding};
 ghost use Rattle.cns_terms.specs.Machine.{answer_over};
+ghost use Rattle.cns_terms.specs.Pending.{pending};
 ghost use Rattle.cns_terms.specs.Refusals.{first_refusal};
 ghost use Rattle.cns_terms.specs.Sheets.{sheet_on};
 ghost use Rattle.cns_trades.specs.Checks.{issue_rules};
@@ -23,7 +24,7 @@ use cns_positions::Positions;
 use cns_retransmit::Batch;
 use cns_sheets::Sheet;
 use cns_terms::{Held, Holding, Key, Refusal, Reply};
-use cns_trades::check_issue;
+use cns_trades::{Pending, check_issue};
 use cns_units::{Account, Cusip, Day, Member, Price};
 use std::alloc::Allocator;
 use std::sync::Arc;
@@ -186,6 +187,13 @@ impl<P: Positions<A>, A: Allocator + Drop + Clone> Parts<P, A> {
             Some(refusal) => Reply::Refused(refusal),
             None => Reply::Held(Held::of(*key, self.holding(*key))),
         }
+    }
+
+    /// The trades that wait for their date, in the order in which they were taken.
+    pub fn pending(&self) -> &Pending<A>
+        ensures { Shows self.now (λ J. result.now ≡ reverse (pending self.now.opening J)) }
+    {
+        self.trades.waiting()
     }
 
     /// The sheet of the closed day with the date; None where no closed day has it.

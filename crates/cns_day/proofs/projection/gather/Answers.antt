@@ -1,5 +1,5 @@
 use Rattle.cns_day.proofs.Common.{arith, common_steps, map-append}
-use Rattle.cns_exceptions.proofs.SoughtLemmas.{later_more}
+use Rattle.cns_day.proofs.Gathered.{later_more}
 use Rattle.cns_day.proofs.projection.gather.Goals as goal
 
 pub loop-entry-preserved-in_default : goal.loop-entry-preserved-in_default

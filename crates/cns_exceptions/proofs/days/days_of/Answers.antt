@@ -1,5 +1,5 @@
-use Rattle.cns_exceptions.proofs.Common.{refl, arith, ℕ, List, Some}
-use Rattle.cns_exceptions.proofs.DaysLemmas.{gone_all, gone_none, gone_on, gone_over}
+use Rattle.cns_exceptions.proofs.Common.{refl, sym, ◌∙◌, ap, arith, ℕ, ◌+◌, List, Some}
+use Rattle.cns_exceptions.proofs.DaysLemmas.{gone_all, gone_none, gone_on, gone_over, gone_to}
 use Rattle.cns_exceptions.proofs.days.days_of.Goals as goal
 
 pub loop-number-init : goal.loop-number-init
@@ -11,7 +11,7 @@ loop-number-init c = record {
 
 pub returns-in_default : goal.returns-in_default
 returns-in_default c =
-    gone_all (λ (i : List ℕ). Some i) c.loop-number.records _ _ _ _ _ _ _ (rw c.in_default.is at c.in_ok-next.ensures) refl c.from-records.ensures c.loop-number.invariant.gone
+    gone_all (λ (i : List ℕ). Some i) c.loop-number.records _ _ _ _ _ _ _ _ (rw c.in_default.is at c.in_ok-next.ensures) refl c.from-records.ensures c.loop-number.invariant.gone
 
 pub loop-number-preserved-in_default-next : goal.loop-number-preserved-in_default-next
 loop-number-preserved-in_default-next c =
@@ -30,3 +30,9 @@ loop-number-preserved c =
       few = omega (arith, few);
       gone = gone_over (λ (i : List ℕ). Some i) c.loop-number.records c.read_day.new.records _ _ _ _ _ _ _ _ _ one c.in_ok-push.ensures (grind arith) inv.gone;
     }
+
+pub returns-then-is_last : goal.returns-then-is_last
+returns-then-is_last c =
+    let one = rw (c.in-Some.is, c.in-Some-next.is) at c.in_ok-next.ensures in
+    let gone = gone_over (λ (i : List ℕ). Some i) c.loop-number.records c.read_day.new.records _ _ _ _ _ _ _ _ _ one c.in_ok-push.ensures (grind arith) c.loop-number.invariant.gone in
+    gone_to (λ (i : List ℕ). Some i) c.read_day.new.records _ _ _ _ _ _ _ _ (c.loop-number.closes.items, _, c.in_ok-push.ensures, sym c.is_last.ensures ∙ c.if-is_last.true) refl (ap (λ n. n + 1) c.from-read.ensures) gone

@@ -15,4 +15,7 @@ returns c =
       first = first i;
       questions = map told (c.in_ok-append.ensures.other_items i);
       invalid = s.invalid.items;
+      days = s.past.days.items;
+      exchanges = s.past.exchanges.items;
+      dividends = s.past.dividends.items;
     }
