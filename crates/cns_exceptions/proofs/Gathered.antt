@@ -1,6 +1,6 @@
 -- Lists that are gathered item by item.
 -- For `counts_of` of counts.rt; `rank` and `look_back` of survey.rt.
-use Rattle.cns_exceptions.proofs.Common.{◌≡◌, ◌∙◌, ◌-◌, ap, sym, take, List, [], ◌∷◌, map, ℕ, ◌+◌, ◌++◌, add-one, append-nil, ne_eqb, map-append, count_at, count_shown, counted, arith, length, refl, length-map, with_items_is, known, looked_at, looked_back, looked_for, or_first, told, with_found, Finding, Survey, Outcome, Taken, counts_below}
+use Rattle.cns_exceptions.proofs.Common.{◌≡◌, ◌∙◌, ◌-◌, ap, sym, take, List, [], ◌∷◌, map, ℕ, ◌+◌, ◌++◌, add-one, append-nil, ne_eqb, map-append, count_at, count_shown, counted, arith, length, refl, length-map, with_items_is, known, looked_at, looked_back, looked_for, told, with_found, Finding, Survey, Outcome, Taken, counts_below}
 use Rattle.cns_exceptions.specs.declared.counts.Counted.{Counted}
 use Rattle.std.proofs.lemmas.List.{take-map}
 use Rattle.std.specs.Vec.{with_items}

@@ -1,5 +1,5 @@
 -- The accepted trades that have the references of refused ones.
-use Rattle.std.specs.Prelude.{ℕ, ◌+◌, ◌-◌, ◌^◌, Bool, false, is_none, ◌==◌, ◌&&◌, if◌then◌else◌, List, [], ◌∷◌, min, nat_lt, Option, Some, None}
+use Rattle.std.specs.Prelude.{ℕ, ◌+◌, ◌-◌, ◌^◌, Bool, false, is_none, ◌==◌, ◌&&◌, if◌then◌else◌, List, [], ◌∷◌, min, nat_lt, Option, Some}
 use Rattle.cns_exceptions.specs.Common.{fold, option_map_or, Finding, Trade, Taken}
 use Rattle.cns_history.specs.Entries.{trade_of}
 use Rattle.cns_exceptions.specs.declared.finding.Accepted.{Accepted}

@@ -161,12 +161,7 @@ fn notice(book: &ReplayBook, number: Option<u32>) -> Option<Fact>
 }
 
 // What else a refusal looks at than the day and a notice.
-fn decided(
-    book: &ReplayBook,
-    exchanges: &[Exchange],
-    named: &Named,
-    refusal: Refusal,
-) -> Decided
+fn decided(book: &ReplayBook, exchanges: &[Exchange], named: &Named, refusal: Refusal) -> Decided
     ensures { AreShown exchanges.now book.now.log refusal result }
 {
     match refusal {

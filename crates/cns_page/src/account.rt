@@ -184,15 +184,15 @@ fn write_marks(
 fn own_fails(alloc: Global, account: Account, day: &ClosedDay) -> Result<Vec<Fail>, NoMemory>
     ensures { IfOk result (λ v. v.items ≡ own_fails account day.now) }
 {
-    let played = &day.source.played;
+    let book = &day.source.played.book;
+    let past = &day.source.played.survey.past;
     let shorts = day.shared.shorts.as_slice();
     let mut fails = Vec::new(alloc);
     for short in shorts {
         if short.row.account != account {
             continue;
         }
-        let (date, row) = (day.close.date, &short.row);
-        let fail = fail_of(alloc, &played.book, &played.survey.past, date, row, short.age)?;
+        let fail = fail_of(alloc, book, past, day.close.date, &short.row, short.age)?;
         fails.push(fail)?;
     }
     Ok(fails)

@@ -1,4 +1,4 @@
-use Rattle.cns_exceptions.proofs.Common.{◌≡◌, ◌∙◌, ap, refl, sym}
+use Rattle.cns_exceptions.proofs.Common.{◌∙◌, ap, refl, sym}
 use Rattle.std.specs.List.{find}
 use Rattle.cns_exceptions.specs.Common.{same_issue}
 use Rattle.cns_terms.specs.declared.pend.Pend.{Pend}

@@ -4,7 +4,7 @@ use Rattle.cns_page.proofs.source.source_of.Goals as goal
 pub returns : goal.returns
 returns c = record {
   opened_on = refl;
-  read = c.records;
+  read = c.in_ok-days.days.records;
   closes = rw (c.closed_date.ensures, c.in_ok-copied.ensures) at c.in_ok-days.ensures;
   part = c.in-Some.part;
   is_part = sym (rw c.as_slice.ensures.value at c.part_of.ensures) ∙ c.in-Some.is;
