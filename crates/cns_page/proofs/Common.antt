@@ -5,7 +5,6 @@ pub use Rattle.std.proofs.lemmas.List.Sums.{fold-append}
 pub use Rattle.std.proofs.lemmas.List.{drop_more}
 pub use Rattle.std.proofs.lemmas.Result.{on_ok_weaker}
 pub use Rattle.std.specs.Prelude.{sum_by}
-pub use Rattle.clap.specs.Words.{is_simple, is_simple_and_free}
 pub use Rattle.cns_book.specs.Log.{state_of}
 pub use Rattle.cns_terms.specs.Common.{Account}
 pub use Rattle.cns_exceptions.specs.Survey.{names}

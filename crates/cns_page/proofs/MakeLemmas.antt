@@ -2,7 +2,7 @@
 -- For `make_of` of entry.rt.
 use Rattle.cns_page.proofs.Common.{◌≡◌, ℕ, List, Option, Some, None, Result, Ok, Err, IfSome, OnOk, subst}
 use Rattle.cns_page.specs.Asked.{HasPage}
-use Rattle.cns_page.specs.declared.asked.Asked.{Asked}
+use Rattle.cns_asked.specs.declared.asked.Asked.{Asked}
 
 -- of all that a reader gave, where that is known
 pub made_of : {T E : Type 0} (a : Asked) (given : Option (List ℕ)) (input : List ℕ) (old new : Option (List ℕ)) (r : Result T E)

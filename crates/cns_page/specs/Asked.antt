@@ -7,7 +7,8 @@ use Rattle.cns_page.specs.Files.{KeptPages}
 use Rattle.cns_page.specs.Folder.{KeepsDay}
 use Rattle.cns_page.specs.History.{IsHistoryPage}
 use Rattle.cns_page.specs.Page.{IsDayPage}
-use Rattle.cns_page.specs.Source.{IsSource, closed_date}
+use Rattle.cns_asked.specs.Asks.{closed_date}
+use Rattle.cns_page.specs.Source.{IsSource}
 use Rattle.cns_page.specs.Today.{IsTodayPage}
 
 -- a text is the page of a closed day, of all accounts or of one

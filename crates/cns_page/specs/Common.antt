@@ -23,9 +23,9 @@ pub use Rattle.cns_terms.specs.declared.holding.Key.{Key}
 pub use Rattle.cns_terms.specs.Keys.{key_cmp}
 pub use Rattle.cns_terms.specs.Sheets.{sheet_on}
 pub use Rattle.cns_units.specs.Day.{day_of, day_text}
-pub use Rattle.cns_page.specs.declared.asked.About.{About}
-pub use Rattle.cns_page.specs.declared.asked.Asked.{Asked}
-pub use Rattle.cns_page.specs.declared.asked.When.{When}
+pub use Rattle.cns_asked.specs.declared.asked.About.{About}
+pub use Rattle.cns_asked.specs.declared.asked.Asked.{Asked}
+pub use Rattle.cns_asked.specs.declared.asked.When.{When}
 pub use Rattle.cns_page.specs.declared.captions.Captions.{Captions}
 pub use Rattle.cns_page.specs.declared.closed.ClosedDay.{ClosedDay}
 pub use Rattle.cns_page.specs.declared.foot.Origin.{Origin}

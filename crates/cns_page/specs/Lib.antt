@@ -5,7 +5,6 @@ pub mod Files
 pub mod Today
 pub mod History
 pub mod Usage
-pub mod Asks
 pub mod Closed
 pub mod Account
 pub mod Folder

@@ -2,17 +2,13 @@
 use Rattle.std.specs.Prelude.{◌≡◌, ℕ, ◌-◌, ◌^◌, List, length, nat_lt, slice_get, take, Option, None, Some, if◌then◌else◌, option_and_then, option_map}
 use Rattle.std.specs.Option.{option_map_or}
 use Rattle.cns_page.specs.Common.{Close, Day, is_same_day, lines_of, About, Asked, Source, Watched, When, Whose}
+use Rattle.cns_asked.specs.Asks.{closed_date}
 use Rattle.cns_exceptions.specs.Days.{AreDays}
 use Rattle.cns_exceptions.specs.Survey.{ComesTo}
 use Rattle.cns_page.specs.Foot.{IsOrigin}
 use Rattle.cns_page.specs.declared.source.Part.{Part}
 
 -- ---- closes
-
--- the date of the closed day that is asked for, if one is given
-abbrev pub closed_date : When → Option Day
-closed_date (When.Closed d) = Some d
-closed_date _ = None
 
 abbrev pub last_close : List Close → Option Close
 last_close closes = slice_get closes (length closes - 1)

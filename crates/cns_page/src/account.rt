@@ -4,7 +4,6 @@ ghost use Rattle.cns_exceptions.specs.Survey.{names};
 ghost use Rattle.cns_page.specs.Account.{IsHeaded, IsOwnPage, ShowsRecords, account_rows, head_text, is_party, nav_text, own_fails, shows_coming, shows_marks, shows_shorts};
 ghost use Rattle.cns_tables.specs.Tables.{HasMore};
 
-use crate::asked::About;
 use crate::captions::{LIABLE, NOTICES, PROJECTION};
 use crate::closed::ClosedDay;
 use crate::foot::write_foot;
@@ -12,6 +11,7 @@ use cns_account::{
     AccountRow, BOOKINGS, DIVIDENDS, FAILS, Fail, MARKS, POSITIONS, Totals, bookings_in,
     dividends_of, fail_of, marks_of, rows_of, totals_of,
 };
+use cns_asked::About;
 use cns_day::{Due, Numbered, Owing, projected_all};
 use cns_exceptions::{Cited, Finding};
 use cns_history::lines_for;

@@ -2,9 +2,9 @@
 ghost use Rattle.std.specs.Prelude.{◌≡◌, IfOk};
 ghost use Rattle.cns_page.specs.Closed.{AreShared, IsClosedDay, date_before, is_folder};
 
-use crate::asked::{About, Asked};
 use crate::source::{Source, asked_close, close_before};
 use cns_account::{DayMoves, moves_of_day};
+use cns_asked::{About, Asked};
 use cns_day::{
     Aged, Due, Later, Numbered, Owing, dues_of, later_shares, liable_members, live_notices,
     shorts_of,

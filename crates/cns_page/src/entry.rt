@@ -3,13 +3,13 @@ ghost use Rattle.std.specs.Prelude.{◌≡◌, ◌≤◌, IfSome, None, OnOk, So
 ghost use Rattle.cns_units.specs.Output.{Writes};
 ghost use Rattle.cns_shell.specs.Faults.{fault_line};
 ghost use Rattle.cns_shell.specs.declared.fault.Fault.{Fault};
-ghost use Rattle.cns_page.specs.Asks.{question};
+ghost use Rattle.cns_asked.specs.Asks.{question};
 ghost use Rattle.cns_page.specs.Asked.{HasPage};
 ghost use Rattle.cns_page.specs.Usage.{usage_line};
 
-use crate::asked::{About, Asked, asked_of};
 use crate::files::{Folder, check_folder};
 use crate::make::make;
+use cns_asked::{About, Asked, asked_of};
 use cns_exceptions::Input;
 use cns_shell::{Ended, Fault, fail, refuse_usage};
 use std::convert::AsStr;

@@ -4,8 +4,8 @@ ghost use Rattle.std.specs.Prelude.{◌≡◌, ◌++◌, IfOk, IfSome, OnOk};
 ghost use Rattle.cns_page.specs.Foot.{IsOrigin, about_text, day_word, foot_text, made_text};
 ghost use Rattle.cns_tables.specs.Pieces.{piece_text};
 
-use crate::asked::About;
 use crate::source::Source;
+use cns_asked::About;
 use cns_shell::Fault;
 use cns_tables::{Piece, write_form};
 use cns_units::Day;

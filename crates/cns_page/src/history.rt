@@ -3,9 +3,9 @@ ghost use Rattle.std.specs.Prelude.{◌≡◌, ◌++◌, IfOk, OnOk};
 ghost use Rattle.cns_book.specs.Log.{state_of};
 ghost use Rattle.cns_page.specs.History.{IsCaptioned, IsHistoryPage, head_text, position_at};
 
-use crate::asked::About;
 use crate::foot::write_foot;
 use crate::source::Source;
+use cns_asked::About;
 use cns_feed::ReplayBook;
 use cns_shell::Fault;
 use cns_tables::{Page, Piece, START, Table, page_style, write_form};

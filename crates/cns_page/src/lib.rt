@@ -10,7 +10,6 @@
 #![tactic(auto)]
 
 mod account;
-mod asked;
 mod captions;
 mod closed;
 mod entry;

@@ -4,7 +4,6 @@ ghost use Rattle.std.specs.Io.KnownBytes.{Appends};
 ghost use Rattle.cns_page.specs.Asked.{HasKept, HasPage, IsClosedPage, IsPage};
 
 use crate::account::own_page;
-use crate::asked::{About, Asked, When, closed_date};
 use crate::closed::{ClosedDay, closed_day, is_folder};
 use crate::files::Keeps;
 use crate::folder::keep_day;
@@ -12,6 +11,7 @@ use crate::history::{check_place, history_page};
 use crate::page::day_page;
 use crate::source::{Source, source_of};
 use crate::today::today_page;
+use cns_asked::{About, Asked, When, closed_date};
 use cns_exceptions::Input;
 use cns_shell::Fault;
 use cns_terms::Key;

@@ -3,10 +3,10 @@ ghost use Rattle.std.specs.Prelude.{◌≡◌, ◌++◌, IfOk, OnOk};
 ghost use Rattle.std.specs.List.{flat_map};
 ghost use Rattle.cns_page.specs.Page.{IsDayPage, IsHeaded, ShowsComing, ShowsExceptions, ShowsPositions, ShowsTotals, before_text, head_text, last_closes, link_text, links_text};
 
-use crate::asked::About;
 use crate::captions::{Captions, day_captions};
 use crate::closed::{ClosedDay, date_before};
 use crate::foot::write_foot;
+use cns_asked::About;
 use cns_day::{all_due, issue_sums, line_of_days, lines_of};
 use cns_exceptions::{Close, Survey, counts_of, spans_of};
 use cns_tables::{Page, Piece, START, page_style, write_form, write_markup};

@@ -1,9 +1,13 @@
 // The records of an input that a page is of, played on a book.
-ghost use Rattle.std.specs.Prelude.{◌≡◌, IfOk};
+ghost use Rattle.std.specs.Prelude.{◌≡◌, IfOk, take};
+ghost use Rattle.cns_asked.specs.Asks.{closed_date};
+ghost use Rattle.cns_exceptions.specs.Days.{AreDays};
+ghost use Rattle.cns_feed.specs.Output.{lines_of};
+ghost use Rattle.cns_page.specs.Foot.{IsOrigin};
 ghost use Rattle.cns_page.specs.Source.{IsSource, asked_close, close_before, last_close, number_of, part_of, watched_for, watched_on};
 
-use crate::asked::{About, Asked, When, closed_date};
 use crate::foot::{Origin, origin_of};
+use cns_asked::{About, Asked, When, closed_date};
 use cns_exceptions::{Close, Days, Input, Played, days_of, play_first};
 use cns_history::{Watched, Whose};
 use cns_shell::Fault;
@@ -115,6 +119,23 @@ fn watched_for(about: About, close: Option<Close>) -> Watched
     }
 }
 
+// Where the days of an input end, up to the one that is asked for.
+fn days_for(alloc: Global, asked: &Asked, input: &Input) -> Result<Days, Fault>
+    ensures { IfOk result (AreDays asked.now.opening (closed_date asked.now.day) (lines_of input.now)) }
+{
+    let input = input.copied(alloc)?;
+    let days = days_of(alloc, input, asked.opening, closed_date(asked.day))?;
+    Ok(days)
+}
+
+// What the first bytes of an input are, so many.
+fn origin_for(alloc: Global, input: &Input, bytes: u64) -> Result<Origin, Fault>
+    ensures { IfOk result (IsOrigin (take bytes input.now)) }
+{
+    let input = input.copied(alloc)?;
+    origin_of(alloc, input.take(bytes))
+}
+
 /// The records that the page is of which is asked for, played once: those up to the close of the day, and all where the day is open.
 /// Where the days end is found by their closes alone. The input's memory is given back as its records are played.
 ///
@@ -123,18 +144,13 @@ fn watched_for(about: About, close: Option<Close>) -> Watched
 pub(crate) fn source_of(alloc: Global, asked: &Asked, input: Input) -> Result<Source, Fault>
     ensures { IfOk result (IsSource asked.now input) }
 {
-    let days = days_of(
-        alloc,
-        input.copied(alloc)?,
-        asked.opening,
-        closed_date(asked.day),
-    )?;
+    let days = days_for(alloc, asked, &input)?;
     let Days { closes, records } = days;
     let Some(part) = part_of(closes.as_slice(), asked.day, records) else {
         return Err(Fault::NoSuchDay);
     };
     let watched = watched_for(asked.about, asked_close(closes.as_slice(), asked.day));
-    let origin = origin_of(alloc, input.copied(alloc)?.take(part.bytes))?;
+    let origin = origin_for(alloc, &input, part.bytes)?;
     let played = play_first(
         alloc,
         input,

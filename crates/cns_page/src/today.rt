@@ -2,11 +2,11 @@
 ghost use Rattle.std.specs.Prelude.{◌≡◌, ◌++◌, IfOk, OnOk};
 ghost use Rattle.cns_page.specs.Today.{IsTodayPage, head_text};
 
-use crate::asked::About;
 use crate::captions::day_captions;
 use crate::foot::write_foot;
 use crate::page::{write_exceptions, write_totals};
 use crate::source::Source;
+use cns_asked::About;
 use cns_exceptions::Played;
 use cns_tables::{Page, Piece, START, page_style, write_form};
 use cns_terms::NoMemory;

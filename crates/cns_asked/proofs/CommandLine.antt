@@ -1,8 +1,9 @@
 -- What is known of the program's line.
 -- For `matches_in` of asked.rt.
-use Rattle.cns_page.proofs.Common.{◌≡◌, true, refl, is_simple, is_simple_and_free}
+use Rattle.std.proofs.Common.{◌≡◌, true, refl}
+use Rattle.clap.specs.Words.{is_simple, is_simple_and_free}
 use Rattle.clap.proofs.OnLiterals.{clap_on_literals}
-use Rattle.cns_page.specs.Asks.{dated_line, page_line}
+use Rattle.cns_asked.specs.Asks.{dated_line, page_line}
 
 -- clap tells of lines of this form what they give
 pub line_is_simple : is_simple page_line ≡ true

@@ -1,13 +1,22 @@
 -- What a line asks for, as `clap` reads its words.
 use Rattle.std.specs.Prelude.{Bool, is_some, List, [], unwrap_or, Option, Some, None, if◌then◌else◌, option_and_then, option_map, codes}
-use Rattle.cns_page.specs.Common.{day_of, About, Asked, When}
+use Rattle.cns_units.specs.Day.{day_of}
+use Rattle.cns_units.specs.declared.day.Day.{Day}
+use Rattle.cns_asked.specs.declared.asked.About.{About}
+use Rattle.cns_asked.specs.declared.asked.Asked.{Asked}
+use Rattle.cns_asked.specs.declared.asked.When.{When}
 use Rattle.std.specs.Result.{result_ok}
 use Rattle.std.specs.Str.{bytes_eq}
 use Rattle.clap.specs.Words.{App, Row, Text, first_of, matches_of, with_rule}
 use Rattle.cns_units.specs.Cusip.{cusip_of}
 use Rattle.cns_feed.specs.Digits.{number_in}
 use Rattle.cns_shell.specs.Options.{bare, date_in, free_rule, if_taken, option_rule}
-use Rattle.cns_page.specs.declared.asked.About.TheVariants as about
+use Rattle.cns_asked.specs.declared.asked.About.TheVariants as about
+
+-- the date of the closed day that is asked for, if one is given
+abbrev pub closed_date : When → Option Day
+closed_date (When.Closed d) = Some d
+closed_date _ = None
 
 -- the date on which the book opens, and a day, where it is given
 unfoldable pub dated_line : App

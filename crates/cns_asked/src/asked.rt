@@ -1,8 +1,7 @@
 // The line of the program, and what it asks for.
 ghost use Rattle.std.specs.Prelude.{◌≡◌, IfOk, IfSome, map, option_map};
 ghost use Rattle.clap.specs.Words.{app_of, found_of, rows_of};
-ghost use Rattle.cns_page.specs.Source.{closed_date};
-ghost use Rattle.cns_page.specs.Asks.{about_read, asked_in, dated_line, day_read, folder_in, found_by, page_line, question};
+ghost use Rattle.cns_asked.specs.Asks.{about_read, asked_in, closed_date, dated_line, day_read, folder_in, found_by, page_line, question};
 
 use clap::{ArgMatches, Command};
 use cns_feed::account_of;
@@ -46,7 +45,7 @@ pub enum About {
 }
 
 /// The date of the closed day that is asked for, if one is given.
-pub(crate) fn closed_date(when: When) -> Option<Day>
+pub fn closed_date(when: When) -> Option<Day>
     ensures { result ≡ closed_date when }
 {
     match when {
