@@ -22,7 +22,7 @@ use Rattle.cns_terms.specs.declared.reply.Stated.{Stated}
 
 -- the rows of its statement, in order, each with what moved it
 abbrev pub account_rows : ClosedDay → Account → List AccountRow
-account_rows d a = map (account_row (state_of d.source.played.book.log) d.shared.moves) (rows_for (arc_value d.sheet).rows a)
+account_rows d a = map (account_row (state_of d.source.now.played.book.log) d.shared.moves) (rows_for (arc_value d.sheet).rows a)
 
 -- the account and the day in the title and in the heading, the day's number, what the positions above 0, those below 0 and all are
 -- worth, the marks and the dividends of the statement, and the next day
@@ -31,7 +31,7 @@ head_text s t d =
     let c = d.close in
     filled HEAD.now (START.now ∷ decimal s.account ∷ day_text c.date ∷ STYLE.now ∷ decimal s.account ∷ day_text c.date ∷ decimal c.day
     ∷ piece_text (Piece.Amount t.long) ∷ piece_text (Piece.Amount t.short) ∷ piece_text (Piece.Amount t.net)
-    ∷ piece_text (Piece.Amount s.mark) ∷ piece_text (Piece.Amount s.dividend) ∷ day_text (next_day d.source.played.book.log) ∷ [])
+    ∷ piece_text (Piece.Amount s.mark) ∷ piece_text (Piece.Amount s.dividend) ∷ day_text (next_day d.source.now.played.book.log) ∷ [])
 
 -- the link to the page of the day, where there is one, and the end of the head
 abbrev pub nav_text : Bool → Day → List ℕ
@@ -49,7 +49,7 @@ shows_marks t rows = shown position_text t.positions rows ∷ shown mark_text t.
 
 -- a short, with its first close and what the price did to it since
 abbrev pub fail_at : ClosedDay → Aged → Fail
-fail_at d s = fail (state_of d.source.played.book.log) d.source.played.survey.past d.close.date s.row s.age
+fail_at d s = fail (state_of d.source.now.played.book.log) d.source.now.played.survey.past d.close.date s.row s.age
 
 -- its fails: its shorts among those of all members
 abbrev pub own_fails : Account → ClosedDay → List Fail
@@ -58,8 +58,8 @@ own_fails a d = map (fail_at d) (filter (λ s. s.row.account == a) d.shared.shor
 -- the dividends that the close paid it, what is due, and its fails
 abbrev pub shows_shorts : OwnCaptions → Account → ClosedDay → List (List ℕ × ℕ)
 shows_shorts t a d =
-    let S = state_of d.source.played.book.log in
-    shown dividend_text t.dividends (dividends_paid S d.source.played.survey.past a (arc_value d.sheet))
+    let S = state_of d.source.now.played.book.log in
+    shown dividend_text t.dividends (dividends_paid S d.source.now.played.survey.past a (arc_value d.sheet))
     ∷ shown projected_text t.due (projected_all S a d.shared.later (arc_value d.sheet).prices) ∷ shown fail_text t.fails (own_fails a d) ∷ []
 
 -- whether a trade is the account's
@@ -76,8 +76,8 @@ shows_coming t a d =
 -- what the day's records booked for it, by their lines, and the first refused records that name it
 pub record ShowsRecords (t : OwnCaptions) (a : Account) (d : ClosedDay) (old new : Page) : Type 0 where
   pub exceptions : List Cited
-  pub are : map (λ c. c.finding.now) exceptions ≡ filter (names a) d.source.played.survey.findings.items
-  pub added : HasMore (shown booked_text t.bookings (filter_map booking_in (filter (is_line_of a) d.source.played.lines.items))
+  pub are : map (λ c. c.finding.now) exceptions ≡ filter (names a) d.source.now.played.survey.findings.items
+  pub added : HasMore (shown booked_text t.bookings (filter_map booking_in (filter (is_line_of a) d.source.now.played.lines.items))
       ∷ shown (λ c. finding_text c.finding.now) t.exceptions exceptions ∷ []) old new
 
 -- ---- the page
@@ -95,4 +95,4 @@ pub record IsOwnPage (d : ClosedDay) (a : Account) (text : List ℕ) : Type 0 wh
   pub shorts : HasMore (shows_shorts captions a d) marked short
   pub to_come : HasMore (shows_coming captions a d) short coming
   pub records : ShowsRecords captions a d coming whole
-  pub foot : text ≡ whole.text.items ++ foot_text d.source (Some d.close.date) (About.Account a) whole.rows
+  pub foot : text ≡ whole.text.items ++ foot_text d.source.now (Some d.close.date) (About.Account a) whole.rows

@@ -27,7 +27,7 @@ pub record AreShared (p : Played) (before : Option Day) (c : Close) (sheet : Day
 
 -- the closed day that is asked for, of its records
 pub record IsClosedDay (asked : Asked) (s : Source) (d : ClosedDay) : Type 0 where
-  pub source : d.source ≡ s
+  pub source : d.source.now ≡ s
   pub close : asked_close asked.day s.closes.items ≡ Some d.close
   pub closed : sheet_on s.played.book.log.opening (journal_of (state_of s.played.book.log)) d.close.date ≡ Some (arc_value d.sheet)
   pub shared : AreShared s.played (date_before s.closes.items) d.close (arc_value d.sheet) d.shared

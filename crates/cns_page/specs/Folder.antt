@@ -14,7 +14,7 @@ KeepsOwn d (a ∷ others) old new =
 
 -- the accounts of a closed day: those that have a position in the first of the listed issues
 abbrev pub accounts_on : ClosedDay → List Account
-accounts_on d = accounts_of Whose.All (state_of d.source.played.book.log) (slice_get (map (λ e. e.0) (arc_value d.sheet).prices) 0)
+accounts_on d = accounts_of Whose.All (state_of d.source.now.played.book.log) (slice_get (map (λ e. e.0) (arc_value d.sheet).prices) 0)
 
 -- the pages of the accounts were kept, and then that of the day, by its date
 abbrev pub KeepsDay : ClosedDay → Option KeptPages → Option KeptPages → Type 0

@@ -25,9 +25,9 @@ use Rattle.cns_page.specs.Foot.{foot_text}
 unfoldable pub head_text : ClosedDay → List ℕ
 head_text d =
     let c = d.close in
-    let s = d.source.played.survey in
+    let s = d.source.now.played.survey in
     filled HEAD.now (START.now ∷ day_text c.date ∷ STYLE.now ∷ day_text c.date ∷ decimal c.day ∷ decimal (min (s.from + 1) (2 ^ 64 - 1))
-    ∷ decimal c.number ∷ count_text (length s.reasons.items) ∷ day_text (next_day d.source.played.book.log) ∷ [])
+    ∷ decimal c.number ∷ count_text (length s.reasons.items) ∷ day_text (next_day d.source.now.played.book.log) ∷ [])
 
 -- the link to the page of the day before, if there was one
 abbrev pub before_text : Option Day → List ℕ
@@ -41,8 +41,8 @@ link_text d a = filled LINK.now (day_text d ∷ decimal a ∷ decimal a ∷ [])
 -- the links to the pages of the day before, of the next day, and of the accounts, where the page has links
 abbrev pub links_text : ClosedDay → List Account → List ℕ
 links_text d accounts =
-    if d.is_linked then before_text (date_before d.source.closes.items)
-    ++ (filled DAY_AFTER.now (day_text (next_day d.source.played.book.log) ∷ []) ++ (flat_map (link_text d.close.date) accounts ++ LINKED.now)) else []
+    if d.is_linked then before_text (date_before d.source.now.closes.items)
+    ++ (filled DAY_AFTER.now (day_text (next_day d.source.now.played.book.log) ∷ []) ++ (flat_map (link_text d.close.date) accounts ++ LINKED.now)) else []
 
 pub record IsHeaded (d : ClosedDay) (accounts : List Account) (p : Page) : Type 0 where
   pub text : p.text.items ≡ head_text d ++ (links_text d accounts ++ MAIN.now)
@@ -67,9 +67,9 @@ pub record ShowsPositions (t : Captions) (d : ClosedDay) (old new : Page) : Type
 pub record ShowsComing (t : Captions) (d : ClosedDay) (old new : Page) : Type 0 where
   pub rising : IsOrdered key_cmp d.shared.later.shares
   pub added : HasMore (shown owing_text t.liable d.shared.liable.items ∷ shown notice_row t.notices d.shared.notices.items
-      ∷ shown due_at_text t.due (map (due_at (state_of d.source.played.book.log) d.shared.later) (keys d.shared.later.shares))
+      ∷ shown due_at_text t.due (map (due_at (state_of d.source.now.played.book.log) d.shared.later) (keys d.shared.later.shares))
       ∷ shown due_text t.projection d.shared.trades.items
-      ∷ shown figures_text t.days (figures_shown (state_of d.source.played.book.log) (last_closes d.source.closes.items)) ∷ []) old new
+      ∷ shown figures_text t.days (figures_shown (state_of d.source.now.played.book.log) (last_closes d.source.now.closes.items)) ∷ []) old new
 
 -- the control totals
 pub record ShowsTotals (t : Captions) (s : Survey) (old new : Page) : Type 0 where
@@ -89,8 +89,8 @@ pub record IsDayPage (d : ClosedDay) (accounts : List Account) (text : List ℕ)
   pub coming : Page
   pub whole : Page
   pub head : IsHeaded d accounts start
-  pub exceptions : ShowsExceptions captions d.source.played.survey start excepted
+  pub exceptions : ShowsExceptions captions d.source.now.played.survey start excepted
   pub positions : ShowsPositions captions d excepted positioned
   pub to_come : ShowsComing captions d positioned coming
-  pub totals : ShowsTotals captions d.source.played.survey coming whole
-  pub foot : text ≡ whole.text.items ++ foot_text d.source (Some d.close.date) About.All whole.rows
+  pub totals : ShowsTotals captions d.source.now.played.survey coming whole
+  pub foot : text ≡ whole.text.items ++ foot_text d.source.now (Some d.close.date) About.All whole.rows

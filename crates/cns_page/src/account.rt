@@ -112,7 +112,7 @@ const MAIN: &str = "</header>
 fn write_head(
     stated: &Stated,
     totals: &Totals,
-    day: &ClosedDay,
+    day: &ClosedDay<'_>,
     out: &mut Vec<u8>,
 ) -> Result<(), AllocError>
     ensures { OnOk result (out.new.items ≡ out.old.items ++ head_text stated.now totals.now day.now) }
@@ -152,7 +152,7 @@ fn write_nav(is_linked: bool, date: Day, out: &mut Vec<u8>) -> Result<(), AllocE
 fn headed(
     alloc: Global,
     account: Account,
-    day: &ClosedDay,
+    day: &ClosedDay<'_>,
     rows: &[AccountRow],
 ) -> Result<Page, AllocError>
     ensures { IfOk result (IsHeaded account day.now rows.now) }
@@ -181,7 +181,7 @@ fn write_marks(
 }
 
 // The account's fails: its shorts among those of all members, each with its first close and what the price did to it since.
-fn own_fails(alloc: Global, account: Account, day: &ClosedDay) -> Result<Vec<Fail>, NoMemory>
+fn own_fails(alloc: Global, account: Account, day: &ClosedDay<'_>) -> Result<Vec<Fail>, NoMemory>
     ensures { IfOk result (λ v. v.items ≡ own_fails account day.now) }
 {
     let book = &day.source.played.book;
@@ -203,7 +203,7 @@ fn write_shorts(
     alloc: Global,
     captions: &OwnCaptions,
     account: Account,
-    day: &ClosedDay,
+    day: &ClosedDay<'_>,
     page: &mut Page,
 ) -> Result<(), NoMemory>
     ensures { OnOk result (HasMore (shows_shorts captions.now account day.now) page.old page.new) }
@@ -264,7 +264,7 @@ fn write_coming(
     alloc: Global,
     captions: &OwnCaptions,
     account: Account,
-    day: &ClosedDay,
+    day: &ClosedDay<'_>,
     page: &mut Page,
 ) -> Result<(), NoMemory>
     ensures { OnOk result (HasMore (shows_coming captions.now account day.now) page.old page.new) }
@@ -301,7 +301,7 @@ fn write_records(
     alloc: Global,
     captions: &OwnCaptions,
     account: Account,
-    day: &ClosedDay,
+    day: &ClosedDay<'_>,
     page: &mut Page,
 ) -> Result<(), NoMemory>
     ensures { OnOk result (ShowsRecords captions.now account day.now page.old page.new) }
@@ -319,12 +319,12 @@ fn write_records(
 pub(crate) fn own_page(
     alloc: Global,
     account: Account,
-    day: &ClosedDay,
+    day: &ClosedDay<'_>,
 ) -> Result<Vec<u8>, NoMemory>
     ensures { IfOk result (λ v. IsOwnPage day.now account v.items) }
 {
     let captions = &own_captions();
-    let source = &day.source;
+    let source = day.source;
     let rows = rows_of(
         alloc,
         &source.played.book,

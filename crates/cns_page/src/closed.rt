@@ -35,8 +35,8 @@ pub struct Shared {
 
 /// A closed day, of the records up to its close alone, with what its pages show.
 #[derive(Drop)]
-pub struct ClosedDay {
-    pub source: Source,
+pub struct ClosedDay<'a> {
+    pub source: &'a Source,
     /// Its close, which is the last one of its source.
     pub close: Close,
     pub sheet: Arc<Sheet<Global>>,
@@ -87,8 +87,12 @@ fn shared_of(
 }
 
 /// The closed day that is asked for, of its records. `NoSuchDay` where the day is open.
-pub(crate) fn closed_day(alloc: Global, asked: &Asked, source: Source) -> Result<ClosedDay, Fault>
-    ensures { IfOk result (IsClosedDay asked.now source) }
+pub(crate) fn closed_day<'a>(
+    alloc: Global,
+    asked: &Asked,
+    source: &'a Source,
+) -> Result<ClosedDay<'a>, Fault>
+    ensures { IfOk result (IsClosedDay asked.now source.now) }
 {
     let Some(close) = asked_close(source.closes.as_slice(), asked.day) else {
         return Err(Fault::NoSuchDay);

@@ -14,7 +14,7 @@ use std::alloc::Global;
 
 // The accounts of a closed day, by number: the corporation's and the members'. None where no issue is listed: then nothing is booked.
 #[tactic(auto, using(cns_history::proofs::Owned::first_of, cns_history::proofs::Owned::none_of))]
-fn accounts_on(alloc: Global, day: &ClosedDay) -> Result<Vec<Account>, NoMemory>
+fn accounts_on(alloc: Global, day: &ClosedDay<'_>) -> Result<Vec<Account>, NoMemory>
     ensures { IfOk result (λ v. v.items ≡ accounts_on day.now) }
 {
     match day.sheet.next_price(None) {
@@ -28,7 +28,7 @@ fn accounts_on(alloc: Global, day: &ClosedDay) -> Result<Vec<Account>, NoMemory>
 fn keep_each<K: Keeps>(
     alloc: Global,
     accounts: &[Account],
-    day: &ClosedDay,
+    day: &ClosedDay<'_>,
     keeper: &mut K,
 ) -> Result<(), Fault>
     ensures { OnOk result (KeepsOwn day.now accounts.now (K.kept keeper.old) (K.kept keeper.new)) }
@@ -47,7 +47,7 @@ fn keep_each<K: Keeps>(
 /// Keeps the pages of a closed day: that of each account, and then that of the day, whose links lead to them.
 pub(crate) fn keep_day<K: Keeps>(
     alloc: Global,
-    day: &ClosedDay,
+    day: &ClosedDay<'_>,
     keeper: &mut K,
 ) -> Result<(), Fault>
     ensures { OnOk result (KeepsDay day.now (K.kept keeper.old) (K.kept keeper.new)) }

@@ -20,7 +20,7 @@ use std::alloc::Global;
 use std::io::Write;
 
 // Checks that an account is a member's or the corporation's, so far as the listed issues tell.
-fn check_account(day: &ClosedDay, account: Account) -> Result<(), Fault> {
+fn check_account(day: &ClosedDay<'_>, account: Account) -> Result<(), Fault> {
     match day.sheet.next_price(None) {
         Some((issue, _)) => check_place(&day.source.played.book, &Key { account, issue }),
         None => Ok(()),
@@ -32,9 +32,9 @@ fn closed_page(
     alloc: Global,
     asked: &Asked,
     account: Option<Account>,
-    source: Source,
+    source: &Source,
 ) -> Result<Vec<u8>, Fault>
-    ensures { IfOk result (λ v. IsClosedPage account asked.now source v.items) }
+    ensures { IfOk result (λ v. IsClosedPage account asked.now source.now v.items) }
 {
     let day = closed_day(alloc, asked, source)?;
     match account {
@@ -47,16 +47,16 @@ fn closed_page(
 }
 
 // The page that is asked for, of its records; that of all accounts, where it is for a folder.
-fn page_of(alloc: Global, asked: &Asked, source: Source) -> Result<Vec<u8>, Fault>
-    ensures { IfOk result (λ v. IsPage asked.now.about asked.now.day asked.now source v.items) }
+fn page_of(alloc: Global, asked: &Asked, source: &Source) -> Result<Vec<u8>, Fault>
+    ensures { IfOk result (λ v. IsPage asked.now.about asked.now.day asked.now source.now v.items) }
 {
     match (asked.about, asked.day) {
         (About::Place(key), when) => {
             check_place(&source.played.book, &key)?;
-            Ok(history_page(alloc, &key, closed_date(when), &source)?)
+            Ok(history_page(alloc, &key, closed_date(when), source)?)
         }
         (About::Account(account), _) => closed_page(alloc, asked, Some(account), source),
-        (About::All, When::Today) => Ok(today_page(alloc, &source)?),
+        (About::All, When::Today) => Ok(today_page(alloc, source)?),
         _ => closed_page(alloc, asked, None, source),
     }
 }
@@ -92,9 +92,9 @@ pub(crate) fn make<K: Keeps, O: Write>(
 {
     let source = source_of(alloc, asked, input)?;
     if is_folder(asked.about) {
-        let day = closed_day(alloc, asked, source)?;
+        let day = closed_day(alloc, asked, &source)?;
         return keep_day(alloc, &day, keeper);
     }
-    let page = page_of(alloc, asked, source)?;
+    let page = page_of(alloc, asked, &source)?;
     write_page(page.as_slice(), output)
 }

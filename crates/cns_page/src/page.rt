@@ -58,7 +58,7 @@ const MOST: usize = 60;
 
 // Adds the head, up to the links within the page.
 #[tactic(auto, unfolding(crate::specs::Page::head_text))]
-fn write_head(day: &ClosedDay, out: &mut Vec<u8>) -> Result<(), AllocError>
+fn write_head(day: &ClosedDay<'_>, out: &mut Vec<u8>) -> Result<(), AllocError>
     ensures { OnOk result (out.new.items ≡ out.old.items ++ head_text day.now) }
 {
     let date = day.close.date;
@@ -112,7 +112,11 @@ fn write_accounts(date: Day, accounts: &[Account], out: &mut Vec<u8>) -> Result<
 
 // Adds the links to other pages, where the page stands in a folder with them.
 #[tactic(auto, using(cns_tables::proofs::Written::after))]
-fn write_links(day: &ClosedDay, accounts: &[Account], out: &mut Vec<u8>) -> Result<(), AllocError>
+fn write_links(
+    day: &ClosedDay<'_>,
+    accounts: &[Account],
+    out: &mut Vec<u8>,
+) -> Result<(), AllocError>
     ensures { OnOk result (out.new.items ≡ out.old.items ++ links_text day.now accounts.now) }
 {
     if !day.is_linked {
@@ -126,7 +130,7 @@ fn write_links(day: &ClosedDay, accounts: &[Account], out: &mut Vec<u8>) -> Resu
 }
 
 // A page with its head.
-fn headed(alloc: Global, day: &ClosedDay, accounts: &[Account]) -> Result<Page, AllocError>
+fn headed(alloc: Global, day: &ClosedDay<'_>, accounts: &[Account]) -> Result<Page, AllocError>
     ensures { IfOk result (IsHeaded day.now accounts.now) }
 {
     let mut page = Page::new(alloc);
@@ -155,7 +159,7 @@ pub(crate) fn write_exceptions(
 fn write_positions(
     alloc: Global,
     captions: &Captions,
-    day: &ClosedDay,
+    day: &ClosedDay<'_>,
     page: &mut Page,
 ) -> Result<(), NoMemory>
     ensures { OnOk result (ShowsPositions captions.now day.now page.old page.new) }
@@ -179,7 +183,7 @@ fn last_closes(closes: &[Close]) -> &[Close]
 fn write_coming(
     alloc: Global,
     captions: &Captions,
-    day: &ClosedDay,
+    day: &ClosedDay<'_>,
     page: &mut Page,
 ) -> Result<(), NoMemory>
     ensures { OnOk result (ShowsComing captions.now day.now page.old page.new) }
@@ -210,13 +214,13 @@ pub(crate) fn write_totals(
 /// The page of a closed day, with links to those of the accounts where it is linked.
 pub(crate) fn day_page(
     alloc: Global,
-    day: &ClosedDay,
+    day: &ClosedDay<'_>,
     accounts: &[Account],
 ) -> Result<Vec<u8>, NoMemory>
     ensures { IfOk result (λ v. IsDayPage day.now accounts.now v.items) }
 {
     let captions = &day_captions();
-    let source = &day.source;
+    let source = day.source;
     let survey = &source.played.survey;
     let mut page = headed(alloc, day, accounts)?;
     write_exceptions(alloc, captions, survey, &mut page)?;
