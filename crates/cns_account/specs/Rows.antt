@@ -1,12 +1,7 @@
 -- The rows of an account's day, and their texts.
-use Rattle.std.specs.Prelude.{ℕ, ℤ, pos, ◌+ℤ◌, ◌-ℤ◌, ◌*ℤ◌, int_lt, List, [], ◌∷◌, ◌++◌, Option, Some, None, if◌then◌else◌}
-use Rattle.cns_account.specs.Common.{int_wrap, row_key, w128, fold, Price, State, Row, standing, worth, HistoryLine, row_of, filled, ROW, DayMoves, Moved, Moves, Piece, piece_text}
-use Rattle.std.specs.Fmt.{decimal}
-use Rattle.cns_history.specs.Words.{what_text}
-use Rattle.cns_tables.specs.Escape.{escaped}
+use Rattle.std.specs.Prelude.{ℕ, ℤ, pos, ◌+ℤ◌, ◌-ℤ◌, ◌*ℤ◌, int_lt, List, [], ◌∷◌, if◌then◌else◌}
+use Rattle.cns_account.specs.Common.{int_wrap, row_key, w128, fold, Price, State, Row, standing, worth, row_of, ROW, DayMoves, Moved, Moves, Piece}
 use Rattle.cns_account.specs.Moves.{moves_at}
-use Rattle.cns_account.specs.declared.booked.Booked.{Booked}
-use Rattle.cns_account.specs.declared.booked.TheConstants.{BEGIN, FIGURES}
 use Rattle.cns_account.specs.declared.mark.MarkRow.{MarkRow}
 use Rattle.cns_account.specs.declared.mark.Causes.{Causes}
 use Rattle.cns_account.specs.declared.row.AccountRow.{AccountRow}
@@ -21,11 +16,6 @@ account_row S ms r = record { row = r; moves = moves_at ms (row_key r); age = (s
 -- the same for the table of marks
 abbrev pub mark_row : AccountRow → MarkRow
 mark_row r = record { line = r }
-
--- the booking of a line; None of a close's own line
-abbrev pub booking_in : HistoryLine → Option Booked
-booking_in (HistoryLine.Booking b) = Some (record { booking = b })
-booking_in (HistoryLine.Closing c) = None
 
 -- ---- amounts
 
@@ -94,10 +84,3 @@ mark_text m =
     (Piece.Amount (pos r.opening_price) ∷ Piece.Amount (pos r.price) ∷ Piece.Amount (moved r)
     ∷ Piece.Amount c.trades ∷ Piece.Amount c.delivered ∷ Piece.Amount c.received ∷ Piece.Amount c.actions ∷ Piece.Amount c.buy_ins
     ∷ Piece.Amount r.mark ∷ Piece.Amount r.money ∷ [])
-
--- what a record booked: its number, the issue, what it was, shares, cents and the position after it
-abbrev pub booked_text : Booked → List ℕ
-booked_text x =
-    let b = x.booking in
-    filled BEGIN.now (decimal b.number ∷ escaped b.issue ∷ []) ++ (what_text b.account b.activity
-    ++ filled FIGURES.now (piece_text (Piece.Signed b.shares) ∷ piece_text (Piece.Amount b.cents) ∷ piece_text (Piece.Signed b.position) ∷ []))

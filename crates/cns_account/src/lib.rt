@@ -8,7 +8,6 @@
 //! each is written, and `tables.rt` has their captions. Start with `row.rt`.
 #![tactic(auto)]
 
-mod booked;
 mod day_moves;
 mod dividends;
 mod fails;
@@ -19,7 +18,6 @@ mod past;
 mod row;
 mod tables;
 
-pub use booked::{Booked, bookings_in};
 pub use day_moves::{DayMoves, moves_of_day};
 pub use dividends::{PaidDividend, dividends_of};
 pub use fails::{Fail, fail_of};

@@ -7,9 +7,8 @@ pub use Rattle.cns_history.specs.declared.line.Closing.{Closing}
 pub use Rattle.cns_history.specs.declared.line.HistoryLine.{HistoryLine}
 pub use Rattle.cns_history.specs.declared.play.Watched.{Watched}
 pub use Rattle.cns_tables.specs.Escape.{escaped}
-pub use Rattle.cns_tables.specs.Tables.{table_text}
-pub use Rattle.cns_tables.specs.Pieces.{filled, piece_text}
-pub use Rattle.cns_terms.specs.Common.{Account, Cusip, Day, Member, Ratio, State, answer, corporation, date, is_same_day, journal_of, next, opened, sheet_on, total}
+pub use Rattle.cns_tables.specs.Pieces.{filled}
+pub use Rattle.cns_terms.specs.Common.{Account, Cusip, Day, State, answer, corporation, date, is_same_day, journal_of, next, opened, sheet_on, total}
 pub use Rattle.cns_terms.specs.declared.command.Activity.{Activity}
 pub use Rattle.cns_terms.specs.declared.holding.Key.{Key}
 pub use Rattle.cns_terms.specs.declared.sheet.Row.{Row}

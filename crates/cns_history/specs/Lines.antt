@@ -182,7 +182,7 @@ unfoldable pub history : Watched → ℕ → State → List Line → List Histor
 history w n S [] = []
 history w n S (l ∷ ls) = lines_of w (n + 1) S l ++ history w (n + 1) (state_after_line S l) ls
 
--- whether a line is an account's
-abbrev pub is_line_of : Account → HistoryLine → Bool
-is_line_of a (HistoryLine.Booking b) = b.account == a
-is_line_of a (HistoryLine.Closing c) = c.row.account == a
+-- what a line booked for an account; None of a close's own line
+abbrev pub booking_for : Account → HistoryLine → Option Booking
+booking_for a (HistoryLine.Booking b) = if b.account == a then Some b else None
+booking_for a (HistoryLine.Closing c) = None

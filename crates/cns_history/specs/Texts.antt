@@ -1,8 +1,9 @@
 -- The texts of the lines of a history.
 use Rattle.std.specs.Prelude.{ℕ, ℤ, pos, ◌*ℤ◌, List, [], ◌∷◌, ◌++◌}
-use Rattle.cns_history.specs.Common.{decimal, day_text, Row, filled, Booking, Closing, HistoryLine}
+use Rattle.cns_history.specs.Common.{decimal, day_text, escaped, Row, filled, Booking, Closing, HistoryLine}
 use Rattle.cns_tables.specs.Grouped.{amount_text, signed_text}
 use Rattle.cns_history.specs.Words.{what_text}
+use Rattle.cns_history.specs.declared.booked.TheConstants as booked
 use Rattle.cns_history.specs.declared.line.TheConstants.{BEGIN, CLOSE, FIGURES}
 
 -- what a position is worth at the close's price
@@ -25,3 +26,9 @@ closing_text c =
 abbrev pub line_text : HistoryLine → List ℕ
 line_text (HistoryLine.Booking b) = booking_text b
 line_text (HistoryLine.Closing c) = closing_text c
+
+-- what a record booked for an account: its number, the issue, what it was, shares, cents and the position after it
+abbrev pub booked_text : Booking → List ℕ
+booked_text b =
+    filled booked.BEGIN.now (decimal b.number ∷ escaped b.issue ∷ []) ++ (what_text b.account b.activity
+    ++ filled booked.FIGURES.now (signed_text b.shares ∷ amount_text b.cents ∷ signed_text b.position ∷ []))

@@ -1,13 +1,12 @@
 // The lines of a history.
-ghost use Rattle.std.specs.Prelude.{◌≡◌, ◌++◌, IfOk, OnOk, filter};
-ghost use Rattle.cns_history.specs.Lines.{is_line_of};
+ghost use Rattle.std.specs.Prelude.{◌≡◌, ◌++◌, OnOk};
 ghost use Rattle.cns_history.specs.Texts.{booking_text, closing_text, worth};
 
 use crate::words::write_what;
 use cns_tables::{Piece, TableRow, cents_of, write_form};
-use cns_terms::{Activity, NoMemory, Row};
+use cns_terms::{Activity, Row};
 use cns_units::{Account, Cents, Cusip, Day};
-use std::alloc::{AllocError, Global};
+use std::alloc::AllocError;
 
 /// What a record booked at a place.
 #[derive(Clone, Copy)]
@@ -108,7 +107,6 @@ fn write_closing(closing: &Closing, out: &mut Vec<u8>) -> Result<(), AllocError>
 }
 
 impl TableRow for HistoryLine {
-    ghost use Rattle.cns_history.specs.Lines.{is_line_of};
     ghost use Rattle.cns_history.specs.Texts.{line_text};
 
     ghost text = { line_text };
@@ -119,23 +117,4 @@ impl TableRow for HistoryLine {
             HistoryLine::Closing(closing) => write_closing(closing, out),
         }
     }
-}
-
-/// Those among some lines that are an account's, in order.
-pub fn lines_for(
-    alloc: Global,
-    account: Account,
-    lines: &[HistoryLine],
-) -> Result<Vec<HistoryLine>, NoMemory>
-    ensures { IfOk result (λ v. v.items ≡ filter (is_line_of account) lines.now) }
-{
-    let own = lines
-        .iter()
-        .copied()
-        .filter(|line| match line {
-            HistoryLine::Booking(booking) => booking.account == account,
-            HistoryLine::Closing(closing) => closing.row.account == account,
-        })
-        .collect(alloc)?;
-    Ok(own)
 }

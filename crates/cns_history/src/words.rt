@@ -51,7 +51,7 @@ fn write_exchange(exchange: &Exchange, out: &mut Vec<u8>) -> Result<(), AllocErr
 }
 
 /// Adds what an activity was, for an account at whose place it booked. The activities that never book have no words.
-pub fn write_what(
+pub(crate) fn write_what(
     account: Account,
     activity: &Activity,
     out: &mut Vec<u8>,

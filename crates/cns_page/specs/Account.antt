@@ -1,9 +1,9 @@
 -- The page of an account's closed day.
 use Rattle.std.specs.Prelude.{◌≡◌, ℕ, ◌==◌, ◌||◌, Bool, if◌then◌else◌, List, [], ◌∷◌, ◌++◌, filter, filter_map, map, Some}
 use Rattle.std.specs.Arc.{arc_value}
-use Rattle.cns_page.specs.Common.{decimal, day_text, Account, Day, state_of, fail, fail_text, booked_text, is_line_of, mark_text, position_text, Fail, piece_text, HasMore, Page, shown, STYLE, ClosedDay, START, Aged, Due, Piece, filled, About}
+use Rattle.cns_page.specs.Common.{decimal, day_text, Account, Day, state_of, fail, fail_text, mark_text, position_text, Fail, piece_text, HasMore, Page, shown, STYLE, ClosedDay, START, Aged, Due, Piece, filled, About}
 use Rattle.cns_account.specs.Dividends.{dividend_text, dividends_paid}
-use Rattle.cns_account.specs.Rows.{account_row, booking_in, mark_row, totals_of}
+use Rattle.cns_account.specs.Rows.{account_row, mark_row, totals_of}
 use Rattle.cns_account.specs.declared.row.AccountRow.{AccountRow}
 use Rattle.cns_account.specs.declared.row.Totals.{Totals}
 use Rattle.cns_day.specs.Due.{projected_all, projected_text}
@@ -12,6 +12,8 @@ use Rattle.cns_day.specs.Rows.{due_text, notice_row, owing_text}
 use Rattle.cns_exceptions.specs.Exceptions.{finding_text}
 use Rattle.cns_exceptions.specs.Survey.{names}
 use Rattle.cns_exceptions.specs.declared.finding.Cited.{Cited}
+use Rattle.cns_history.specs.Lines.{booking_for}
+use Rattle.cns_history.specs.Texts.{booked_text}
 use Rattle.cns_page.specs.Foot.{foot_text}
 use Rattle.cns_page.specs.declared.account.OwnCaptions.{OwnCaptions}
 use Rattle.cns_page.specs.declared.account.TheConstants.{HEAD, LINKED, MAIN}
@@ -77,7 +79,7 @@ shows_coming t a d =
 pub record ShowsRecords (t : OwnCaptions) (a : Account) (d : ClosedDay) (old new : Page) : Type 0 where
   pub exceptions : List Cited
   pub are : map (λ c. c.finding.now) exceptions ≡ filter (names a) d.source.now.played.survey.findings.items
-  pub added : HasMore (shown booked_text t.bookings (filter_map booking_in (filter (is_line_of a) d.source.now.played.lines.items))
+  pub added : HasMore (shown booked_text t.bookings (filter_map (booking_for a) d.source.now.played.lines.items)
       ∷ shown (λ c. finding_text c.finding.now) t.exceptions exceptions ∷ []) old new
 
 -- ---- the page

@@ -20,18 +20,21 @@ IsDayOf (Some a) d text = IsOwnPage d a text
 abbrev pub IsClosedPage : Option Account → Asked → Source → List ℕ → Type 0
 IsClosedPage account asked s text = (d : ClosedDay) × IsClosedDay asked s d × IsDayOf account d text
 
--- a text is the page that is asked for, of its records: the history of a place, the page of an account, or that of all accounts, of the
--- open day or of a closed one
-abbrev pub IsPage : About → When → Asked → Source → List ℕ → Type 0
-IsPage (About.Place k) w asked s text = IsHistoryPage k (closed_date w) s text
-IsPage (About.Account a) w asked s text = IsClosedPage (Some a) asked s text
-IsPage About.All When.Today asked s text = IsTodayPage s text
-IsPage _ w asked s text = IsClosedPage None asked s text
+-- that of all accounts, of the open day or of a closed one
+abbrev pub IsWholePage : When → Asked → Source → List ℕ → Type 0
+IsWholePage When.Today asked s text = IsTodayPage s text
+IsWholePage _ asked s text = IsClosedPage None asked s text
+
+-- a text is the page that is asked for, of its records: the history of a place, the page of an account, or that of all accounts
+abbrev pub IsPage : About → Asked → Source → List ℕ → Type 0
+IsPage (About.Place k) asked s text = IsHistoryPage k (closed_date asked.day) s text
+IsPage (About.Account a) asked s text = IsClosedPage (Some a) asked s text
+IsPage _ asked s text = IsWholePage asked.day asked s text
 
 -- what was written of the records: the page; nothing where pages go into a folder
 abbrev pub Writes : Bool → Asked → Source → Option (List ℕ) → Option (List ℕ) → Type 0
 Writes true asked s old new = new ≡ old
-Writes false asked s old new = (text : List ℕ) × IsPage asked.about asked.day asked s text × Appends old new text
+Writes false asked s old new = (text : List ℕ) × IsPage asked.about asked s text × Appends old new text
 
 -- what was kept of them: the pages of the closed day where they go into a folder, else nothing
 abbrev pub Keeps : Bool → Asked → Source → Option KeptPages → Option KeptPages → Type 0

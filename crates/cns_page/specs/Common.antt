@@ -5,12 +5,12 @@ pub use Rattle.std.specs.List.{flat_map}
 pub use Rattle.std.specs.Ordering.{nat_cmp}
 pub use Rattle.cns_account.specs.Fails.{fail, fail_text}
 pub use Rattle.cns_account.specs.Moves.{AreMoves}
-pub use Rattle.cns_account.specs.Rows.{booked_text, mark_text, position_text}
+pub use Rattle.cns_account.specs.Rows.{mark_text, position_text}
 pub use Rattle.cns_account.specs.declared.fails.Fail.{Fail}
 pub use Rattle.cns_book.specs.Log.{state_of}
 pub use Rattle.cns_feed.specs.Output.{lines_of}
 pub use Rattle.cns_book.specs.Shown.{position_shown}
-pub use Rattle.cns_history.specs.Lines.{accounts_of, is_line_of}
+pub use Rattle.cns_history.specs.Lines.{accounts_of}
 pub use Rattle.cns_history.specs.declared.play.Watched.{Watched}
 pub use Rattle.cns_tables.specs.Escape.{escaped}
 pub use Rattle.cns_tables.specs.Grouped.{count_text}

@@ -8,13 +8,13 @@ use crate::captions::{LIABLE, NOTICES, PROJECTION};
 use crate::closed::ClosedDay;
 use crate::foot::write_foot;
 use cns_account::{
-    AccountRow, BOOKINGS, DIVIDENDS, FAILS, Fail, MARKS, POSITIONS, Totals, bookings_in,
-    dividends_of, fail_of, marks_of, rows_of, totals_of,
+    AccountRow, BOOKINGS, DIVIDENDS, FAILS, Fail, MARKS, POSITIONS, Totals, dividends_of, fail_of,
+    marks_of, rows_of, totals_of,
 };
 use cns_asked::About;
 use cns_day::{Due, Numbered, Owing, projected_all};
 use cns_exceptions::{Cited, Finding};
-use cns_history::lines_for;
+use cns_history::bookings_for;
 use cns_tables::{Page, Piece, START, Table, page_style, write_form, write_markup};
 use cns_terms::{NoMemory, Stated};
 use cns_units::{Account, Day};
@@ -174,9 +174,9 @@ fn write_marks(
 ) -> Result<(), NoMemory>
     ensures { OnOk result (HasMore (shows_marks captions.now rows.now) page.old page.new) }
 {
-    let marks = marks_of(alloc, rows)?;
     page.table(&captions.positions, rows)?;
-    page.table(&captions.marks, marks.as_slice())?;
+    let marks = marks_of(alloc, rows)?;
+    page.gathered(&captions.marks, marks)?;
     Ok(())
 }
 
@@ -211,11 +211,11 @@ fn write_shorts(
     let book = &day.source.played.book;
     let past = &day.source.played.survey.past;
     let dividends = dividends_of(alloc, book, past, &day.sheet, account)?;
+    page.gathered(&captions.dividends, dividends)?;
     let due = projected_all(alloc, book, &day.sheet, account, &day.shared.later)?;
+    page.gathered(&captions.due, due)?;
     let fails = own_fails(alloc, account, day)?;
-    page.table(&captions.dividends, dividends.as_slice())?;
-    page.table(&captions.due, due.as_slice())?;
-    page.table(&captions.fails, fails.as_slice())?;
+    page.gathered(&captions.fails, fails)?;
     Ok(())
 }
 
@@ -271,11 +271,11 @@ fn write_coming(
 {
     let shared = &day.shared;
     let liable = own_liable(alloc, account, shared.liable.as_slice())?;
+    page.gathered(&captions.liable, liable)?;
     let notices = own_notices(alloc, account, shared.notices.as_slice())?;
+    page.gathered(&captions.notices, notices)?;
     let trades = own_trades(alloc, account, shared.trades.as_slice())?;
-    page.table(&captions.liable, liable.as_slice())?;
-    page.table(&captions.notices, notices.as_slice())?;
-    page.table(&captions.trades, trades.as_slice())?;
+    page.gathered(&captions.trades, trades)?;
     Ok(())
 }
 
@@ -307,11 +307,10 @@ fn write_records(
     ensures { OnOk result (ShowsRecords captions.now account day.now page.old page.new) }
 {
     let played = &day.source.played;
-    let lines = lines_for(alloc, account, played.lines.as_slice())?;
-    let bookings = bookings_in(alloc, lines.as_slice())?;
+    let bookings = bookings_for(alloc, account, played.lines.as_slice())?;
+    page.gathered(&captions.bookings, bookings)?;
     let exceptions = own_exceptions(alloc, account, played.survey.findings.as_slice())?;
-    page.table(&captions.bookings, bookings.as_slice())?;
-    page.table(&captions.exceptions, exceptions.as_slice())?;
+    page.gathered(&captions.exceptions, exceptions)?;
     Ok(())
 }
 

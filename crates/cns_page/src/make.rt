@@ -1,7 +1,8 @@
 // The page that is asked for, of the records of an input.
 ghost use Rattle.std.specs.Prelude.{◌≡◌, IfOk, OnOk};
 ghost use Rattle.std.specs.Io.KnownBytes.{Appends};
-ghost use Rattle.cns_page.specs.Asked.{HasKept, HasPage, IsClosedPage, IsPage};
+ghost use Rattle.cns_page.specs.Closed.{is_folder};
+ghost use Rattle.cns_page.specs.Asked.{HasKept, HasPage, IsClosedPage, IsDayOf, IsPage, IsWholePage, Keeps as KeepsAsked, Writes};
 
 use crate::account::own_page;
 use crate::closed::{ClosedDay, closed_day, is_folder};
@@ -28,6 +29,23 @@ fn check_account(day: &ClosedDay<'_>, account: Account) -> Result<(), Fault> {
 }
 
 // The page of a closed day, of all accounts or of one.
+fn page_of_day(
+    alloc: Global,
+    account: Option<Account>,
+    day: &ClosedDay<'_>,
+) -> Result<Vec<u8>, Fault>
+    ensures { IfOk result (λ v. IsDayOf account day.now v.items) }
+{
+    match account {
+        Some(account) => {
+            check_account(day, account)?;
+            Ok(own_page(alloc, account, day)?)
+        }
+        None => Ok(day_page(alloc, day, &[])?),
+    }
+}
+
+// The same of the closed day that is asked for.
 fn closed_page(
     alloc: Global,
     asked: &Asked,
@@ -37,27 +55,30 @@ fn closed_page(
     ensures { IfOk result (λ v. IsClosedPage account asked.now source.now v.items) }
 {
     let day = closed_day(alloc, asked, source)?;
-    match account {
-        Some(account) => {
-            check_account(&day, account)?;
-            Ok(own_page(alloc, account, &day)?)
-        }
-        None => Ok(day_page(alloc, &day, &[])?),
+    page_of_day(alloc, account, &day)
+}
+
+// The page of a day, of all accounts.
+fn whole_page(alloc: Global, asked: &Asked, source: &Source) -> Result<Vec<u8>, Fault>
+    ensures { IfOk result (λ v. IsWholePage asked.now.day asked.now source.now v.items) }
+{
+    match asked.day {
+        When::Today => Ok(today_page(alloc, source)?),
+        _ => closed_page(alloc, asked, None, source),
     }
 }
 
 // The page that is asked for, of its records; that of all accounts, where it is for a folder.
 fn page_of(alloc: Global, asked: &Asked, source: &Source) -> Result<Vec<u8>, Fault>
-    ensures { IfOk result (λ v. IsPage asked.now.about asked.now.day asked.now source.now v.items) }
+    ensures { IfOk result (λ v. IsPage asked.now.about asked.now source.now v.items) }
 {
-    match (asked.about, asked.day) {
-        (About::Place(key), when) => {
+    match asked.about {
+        About::Place(key) => {
             check_place(&source.played.book, &key)?;
-            Ok(history_page(alloc, &key, closed_date(when), source)?)
+            Ok(history_page(alloc, &key, closed_date(asked.day), source)?)
         }
-        (About::Account(account), _) => closed_page(alloc, asked, Some(account), source),
-        (About::All, When::Today) => Ok(today_page(alloc, source)?),
-        _ => closed_page(alloc, asked, None, source),
+        About::Account(account) => closed_page(alloc, asked, Some(account), source),
+        _ => whole_page(alloc, asked, source),
     }
 }
 
@@ -70,6 +91,25 @@ fn write_page<O: Write>(page: &[u8], output: &mut O) -> Result<(), Fault>
         Ok(()) => Ok(()),
         Err(_) => Err(Fault::Write),
     }
+}
+
+// Writes the page that is asked for, of its records, or hands the pages for a folder to its keeper.
+fn show<K: Keeps, O: Write>(
+    alloc: Global,
+    asked: &Asked,
+    source: &Source,
+    keeper: &mut K,
+    output: &mut O,
+) -> Result<(), Fault>
+    ensures page { OnOk result (Writes (is_folder asked.now.about) asked.now source.now (O.contents output.old) (O.contents output.new)) }
+    ensures kept { OnOk result (KeepsAsked (is_folder asked.now.about) asked.now source.now (K.kept keeper.old) (K.kept keeper.new)) }
+{
+    if is_folder(asked.about) {
+        let day = closed_day(alloc, asked, source)?;
+        return keep_day(alloc, &day, keeper);
+    }
+    let page = page_of(alloc, asked, source)?;
+    write_page(page.as_slice(), output)
 }
 
 /// Writes the page that is asked for, of the records of an input, and flushes it; or hands the pages for a folder to its keeper. A page is
@@ -91,10 +131,5 @@ pub(crate) fn make<K: Keeps, O: Write>(
     ensures kept { OnOk result (HasKept asked.now input (K.kept keeper.old) (K.kept keeper.new)) }
 {
     let source = source_of(alloc, asked, input)?;
-    if is_folder(asked.about) {
-        let day = closed_day(alloc, asked, &source)?;
-        return keep_day(alloc, &day, keeper);
-    }
-    let page = page_of(alloc, asked, &source)?;
-    write_page(page.as_slice(), output)
+    show(alloc, asked, &source, keeper, output)
 }

@@ -149,9 +149,9 @@ pub(crate) fn write_exceptions(
 ) -> Result<(), NoMemory>
     ensures { OnOk result (ShowsExceptions captions.now survey.now page.old page.new) }
 {
-    let reasons = counts_of(alloc, survey.reasons.as_slice())?;
     page.table(&captions.exceptions, survey.findings.as_slice())?;
-    page.table(&captions.reasons, reasons.as_slice())?;
+    let reasons = counts_of(alloc, survey.reasons.as_slice())?;
+    page.gathered(&captions.reasons, reasons)?;
     Ok(())
 }
 
@@ -165,9 +165,9 @@ fn write_positions(
     ensures { OnOk result (ShowsPositions captions.now day.now page.old page.new) }
 {
     let lines = lines_of(alloc, &day.sheet, &day.shared.moves)?;
+    page.gathered(&captions.accounts, lines)?;
     let issues = issue_sums(alloc, &day.sheet)?;
-    page.table(&captions.accounts, lines.as_slice())?;
-    page.table(&captions.issues, issues.as_slice())?;
+    page.gathered(&captions.issues, issues)?;
     page.table(&captions.fails, day.shared.shorts.as_slice())?;
     Ok(())
 }
@@ -190,13 +190,13 @@ fn write_coming(
 {
     let book = &day.source.played.book;
     let shared = &day.shared;
-    let due = all_due(alloc, book, &shared.later)?;
-    let days = line_of_days(alloc, book, last_closes(day.source.closes.as_slice()))?;
     page.table(&captions.liable, shared.liable.as_slice())?;
     page.table(&captions.notices, shared.notices.as_slice())?;
-    page.table(&captions.due, due.as_slice())?;
+    let due = all_due(alloc, book, &shared.later)?;
+    page.gathered(&captions.due, due)?;
     page.table(&captions.projection, shared.trades.as_slice())?;
-    page.table(&captions.days, days.as_slice())?;
+    let days = line_of_days(alloc, book, last_closes(day.source.closes.as_slice()))?;
+    page.gathered(&captions.days, days)?;
     Ok(())
 }
 

@@ -194,4 +194,15 @@ impl Page {
         self.rows = self.rows.saturating_add(rows.len() as u64);
         write_table(table, rows, &mut self.text)
     }
+
+    /// The same of rows that were gathered for it, whose memory is given back.
+    pub fn gathered<T: TableRow + Drop>(
+        &mut self,
+        table: &Table,
+        rows: Vec<T>,
+    ) -> Result<(), AllocError>
+        ensures { OnOk result (HasMore (shown T.text table.now rows.items ∷ []) self.old self.new) }
+    {
+        self.table(table, rows.as_slice())
+    }
 }

@@ -3,6 +3,6 @@ use Rattle.cns_page.proofs.account.write_coming.Goals as goal
 
 pub returns : goal.returns
 returns c =
-    then _ _ _ _ _ (rw (c.as_slice-4.ensures.value, c.in_ok-liable.ensures, c.as_slice.ensures.value) at c.in_ok-table.ensures)
-    (then _ _ _ _ _ (rw (c.as_slice-5.ensures.value, c.in_ok-notices.ensures, c.as_slice-2.ensures.value) at c.in_ok-table-2.ensures)
-    (rw (c.as_slice-6.ensures.value, c.in_ok-trades.ensures, c.as_slice-3.ensures.value) at c.in_ok-table-3.ensures))
+    then _ _ _ _ _ (rw (c.in_ok-liable.ensures, c.as_slice.ensures.value) at c.in_ok-gathered.ensures)
+    (then _ _ _ _ _ (rw (c.in_ok-notices.ensures, c.as_slice-2.ensures.value) at c.in_ok-gathered-2.ensures)
+    (rw (c.in_ok-trades.ensures, c.as_slice-3.ensures.value) at c.in_ok-gathered-3.ensures))

@@ -4,8 +4,8 @@ use Rattle.cns_page.proofs.account.write_records.Goals as goal
 pub returns : goal.returns
 returns c = record {
   exceptions = _;
-  are = rw c.as_slice-3.ensures.value at c.in_ok-exceptions.ensures;
+  are = rw c.as_slice-2.ensures.value at c.in_ok-exceptions.ensures;
   added =
-      then _ _ _ _ _ (rw (c.as_slice-4.ensures.value, c.in_ok-bookings.ensures, c.as_slice-2.ensures.value, c.in_ok-lines.ensures, c.as_slice.ensures.value) at c.in_ok-table.ensures)
-      (rw c.as_slice-5.ensures.value at c.in_ok-table-2.ensures);
+      then _ _ _ _ _ (rw (c.in_ok-bookings.ensures, c.as_slice.ensures.value) at c.in_ok-gathered.ensures)
+      c.in_ok-gathered-2.ensures;
 }

@@ -6,6 +6,6 @@ returns c = record {
   issues = _;
   are = rw c.deref-2.ensures at c.in_ok-issues.ensures;
   added =
-      then _ _ _ _ _ (rw (c.as_slice.ensures.value, c.in_ok-lines.ensures, c.deref.ensures) at c.in_ok-table.ensures)
-      (then _ _ _ _ _ (rw c.as_slice-2.ensures.value at c.in_ok-table-2.ensures) (rw c.as_slice-3.ensures.value at c.in_ok-table-3.ensures));
+      then _ _ _ _ _ (rw (c.in_ok-lines.ensures, c.deref.ensures) at c.in_ok-gathered.ensures)
+      (then _ _ _ _ _ c.in_ok-gathered-2.ensures (rw c.as_slice.ensures.value at c.in_ok-table.ensures));
 }
