@@ -283,6 +283,13 @@ $room/later.csv NoSuchIssue --account 1 --issue 594918104 --day 2024-06-03
 FAULTS
 "$program" --open 2024-06-03 --account 202 < /dev/null > "$room/output" 2> "$room/errors"
 expect 'an account before the first close' 1 'fault NoSuchDay' "$?"
+
+# What no record bears on is refused before any is read: this input has no end.
+mkfifo "$room/endless"
+exec 9<> "$room/endless"
+timeout 20 "$program" --open 2024-06-03 --account 202 --day today <&9 > "$room/output" 2> "$room/errors"
+expect 'an account of the open day, and an input without an end' 1 'fault NoSuchDay' "$?"
+exec 9>&-
 pages=$((pages + 2))
 
 # A record is a stranger's bytes: what could be taken for markup, what is no character of a text, and what is no UTF-8.

@@ -7,9 +7,10 @@ ghost use Rattle.cns_asked.specs.Asks.{question};
 ghost use Rattle.cns_page.specs.Asked.{HasPage};
 ghost use Rattle.cns_page.specs.Usage.{usage_line};
 
+use crate::closed::is_folder;
 use crate::files::{Folder, check_folder};
 use crate::make::make;
-use cns_asked::{About, Asked, asked_of};
+use cns_asked::{About, Asked, When, asked_of};
 use cns_exceptions::Input;
 use cns_shell::{Ended, Fault, fail, refuse_usage};
 use std::convert::AsStr;
@@ -21,10 +22,14 @@ use std::rt::Files;
 pub const USAGE: &[u8] =
     b"usage: cnspage --open DATE [--day DATE|today] [--account N [--issue CUSIP] | --folder DIR] < RECORDS\n";
 
-// Checks, before anything is read, that a folder that pages are asked for in is there.
-fn check_asked<R: Files>(rt: &R, about: About, folder: &str) -> Result<(), Fault> {
-    match about {
-        About::Folder => check_folder(rt, folder),
+// Checks what no record bears on, before anything is read: that a folder that pages are asked for in is there, and that what a day
+// did to accounts is asked of a closed one.
+fn check_asked<R: Files>(rt: &R, asked: &Asked, folder: &str) -> Result<(), Fault> {
+    if is_folder(asked.about) {
+        check_folder(rt, folder)?;
+    }
+    match (asked.about, asked.day) {
+        (About::Account(_) | About::Folder, When::Today) => Err(Fault::NoSuchDay),
         _ => Ok(()),
     }
 }
@@ -40,7 +45,7 @@ fn make_of<R: AllocGlobal + Files<File = File>, I: Read, O: Write>(
     ensures { OnOk result (IfSome (I.remaining input.old)
         (λ bytes. HasPage asked.now bytes (O.contents output.old) (O.contents output.new))) }
 {
-    check_asked(rt, asked.about, folder)?;
+    check_asked(rt, asked, folder)?;
     let alloc = rt.alloc();
     let records = Input::read(alloc, input)?;
     let mut folder = Folder { rt, path: folder };
