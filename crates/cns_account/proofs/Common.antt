@@ -1,5 +1,5 @@
 -- The names that most proofs cite, passed on from one place. Declares nothing.
-pub use Rattle.std.proofs.Common.{Bool, Err, FitsSigned, IfSome, List, None, Ok, Option, Ordering, Some, [], ap, append-nil, append_assoc, arith, bytes_eq, cond, eqb, false, filter, filter_map, flat_map, inl, inr, int_lt, is_eq, is_none, length, map, neg_ℤ, nat_lt, not, option_and_then, option_map, option_to_list, pos, refl, reverse, rules, slice_get, subst, suc, sum_by, sym, take, take-suc, true, unsigned_abs, unwrap_or, zero, ℕ, ℤ, ◌&&◌, ◌*ℤ◌, ◌*◌, ◌++◌, ◌+ℤ◌, ◌+◌, ◌-ℤ◌, ◌-◌, ◌<◌, ◌==◌, ◌^◌, ◌||◌, ◌∙◌, ◌∷◌, ◌≡◌, ◌≤◌, ◌⊎◌}
+pub use Rattle.std.proofs.Common.{Bool, Err, FitsSigned, IfSome, List, None, Ok, Option, Ordering, Some, [], ap, append-nil, append_assoc, arith, bytes_eq, cond, eqb, false, filter, filter_map, flat_map, inl, inr, int_lt, is_eq, is_none, length, map, neg_ℤ, nat_lt, not, option_and_then, option_map, option_to_list, pos, refl, reverse, slice_get, subst, suc, sum_by, sym, take, take-suc, true, unsigned_abs, unwrap_or, zero, ℕ, ℤ, ◌&&◌, ◌*ℤ◌, ◌*◌, ◌++◌, ◌+ℤ◌, ◌+◌, ◌-ℤ◌, ◌-◌, ◌<◌, ◌==◌, ◌^◌, ◌||◌, ◌∙◌, ◌∷◌, ◌≡◌, ◌≤◌, ◌⊎◌}
 pub use Rattle.std.proofs.lemmas.Int.{SFits-int_wrap, fits_signed_from_abs, int_wrap-add_right, int_wrap-add_same, int_wrap_fits, ints}
 pub use Rattle.std.proofs.lemmas.Bool.{cases_Bool, cond_both}
 pub use Rattle.std.proofs.lemmas.List.{nil_from_length, take_all}

@@ -8,7 +8,6 @@ pub use Rattle.cns_history.specs.Texts.{worth}
 pub use Rattle.cns_history.specs.declared.line.Booking.{Booking}
 pub use Rattle.cns_history.specs.declared.line.HistoryLine.{HistoryLine}
 pub use Rattle.cns_tables.specs.Tables.{row_of}
-pub use Rattle.cns_tables.specs.Pieces.{filled, piece_text}
 pub use Rattle.cns_tables.specs.declared.table.TheConstants.{ROW}
 pub use Rattle.cns_terms.specs.Common.{Account, Cusip, Day, DaySheet, Price, State, answer, cash, corporation, exchanged, is_not_after, is_same_day, journal_of, key_cmp, member_limit, opened, row_key, same_issue, shares_limit, sheet_on}
 pub use Rattle.cns_terms.specs.Dividends.{declared, is_due}

@@ -1,5 +1,5 @@
 -- The names that most proofs cite, passed on from one place. Declares nothing.
-pub use Rattle.std.proofs.Common.{Bool, List, None, Option, Some, [], add-one, ap, append-nil, append_assoc, arith, drop, false, filter_map, get_or, if◌then◌else◌, inl, inr, length, length-append, map, min, refl, reverse, set, sym, take, true, ℕ, ◌&&◌, ◌++◌, ◌+◌, ◌-◌, ◌<◌, ◌==◌, ◌^◌, ◌∙◌, ◌∷◌, ◌≡◌, ◌≤◌}
+pub use Rattle.std.proofs.Common.{List, None, Option, Some, [], add-one, ap, append-nil, append_assoc, arith, drop, false, filter_map, get_or, inl, inr, length, length-append, map, refl, reverse, set, sym, take, ℕ, ◌++◌, ◌+◌, ◌-◌, ◌<◌, ◌==◌, ◌^◌, ◌∙◌, ◌∷◌, ◌≡◌, ◌≤◌}
 pub use Rattle.std.proofs.lemmas.Bool.{ne_eqb}
 pub use Rattle.std.proofs.lemmas.List.{length-map, map-append, with_items_is}
 pub use Rattle.std.specs.List.{flat_map, list_any}

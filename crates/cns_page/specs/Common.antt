@@ -22,7 +22,7 @@ pub use Rattle.cns_terms.specs.Common.{Account, Day, DaySheet, day, is_same_day,
 pub use Rattle.cns_terms.specs.declared.holding.Key.{Key}
 pub use Rattle.cns_terms.specs.Keys.{key_cmp}
 pub use Rattle.cns_terms.specs.Sheets.{sheet_on}
-pub use Rattle.cns_units.specs.Day.{day_of, day_text}
+pub use Rattle.cns_units.specs.Day.{day_text}
 pub use Rattle.cns_asked.specs.declared.asked.About.{About}
 pub use Rattle.cns_asked.specs.declared.asked.Asked.{Asked}
 pub use Rattle.cns_asked.specs.declared.asked.When.{When}

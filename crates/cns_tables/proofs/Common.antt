@@ -1,12 +1,9 @@
 -- The names that most proofs cite, passed on from one place. Declares nothing.
 pub use Rattle.std.proofs.lemmas.Bool.Decides.{nat_tests}
-pub use Rattle.std.proofs.Common.{rules, suc, map, ◌≢◌, Bool, Err, List, Ok, OnOk, Option, Result, [], add-one, append-nil, ap, append_assoc, arith, drop, take, drop-cons, false, get_or, length, length-drop, refl, sym, true, ℕ, ◌&&◌, ◌++◌, ◌+◌, ◌-◌, ◌<◌, ◌==◌, ◌∙◌, ◌∷◌, ◌≡◌}
-pub use Rattle.std.proofs.lemmas.Int.{to_z-of_z}
-pub use Rattle.std.proofs.lemmas.Grind.{flat_map-append}
-pub use Rattle.std.proofs.lemmas.List.{drop_all, drop_more, take_more}
+pub use Rattle.std.proofs.Common.{rules, suc, map, ◌≢◌, Bool, Err, List, Ok, OnOk, Result, [], add-one, ap, append_assoc, arith, drop, take, drop-cons, false, get_or, length, length-drop, refl, true, ℕ, ◌&&◌, ◌++◌, ◌+◌, ◌-◌, ◌<◌, ◌==◌, ◌∙◌, ◌∷◌, ◌≡◌}
+pub use Rattle.std.proofs.lemmas.List.{drop_all, drop_more}
 pub use Rattle.std.specs.List.{flat_map, list_all}
 pub use Rattle.cns_tables.specs.Escape.{escaped, escaped_byte, is_plain}
-unfoldable pub use Rattle.cns_tables.specs.Grouped.{amount_text, count_text, signed_text}
 pub use Rattle.cns_tables.specs.Grouped.{digit_text, grouped}
 unfoldable pub use Rattle.cns_tables.specs.Pieces.{filled}
 pub use Rattle.cns_tables.specs.Pieces.{piece_text}
