@@ -1,6 +1,6 @@
 -- The accepted trade that is found for a reference, entry by entry.
 -- For `note_entry` and `note_accepted` of accepted.rt.
-use Rattle.cns_exceptions.proofs.Common.{◌≡◌, ◌∙◌, sym, ap, refl, false, ℕ, ◌+◌, ◌-◌, ◌^◌, ◌≤◌, ◌<◌, ◌==◌, List, [], ◌∷◌, ◌++◌, Option, Some, None, take, reverse, filter_map, list_any, map, length, arith, Taken, Trade, Finding, Accepted, entries_end, entry_more, entry_at, looked_at, or_entry, or_first, reference_in, with_entry, with_found, with_trade}
+use Rattle.cns_exceptions.proofs.Common.{◌≡◌, ◌∙◌, sym, ap, refl, ℕ, ◌+◌, ◌-◌, ◌^◌, ◌≤◌, ◌<◌, List, [], ◌∷◌, ◌++◌, Option, Some, None, take, reverse, map, length, arith, Taken, Trade, Finding, Accepted, entries_end, entry_more, entry_at, looked_at, or_entry, or_first, with_entry, with_found, with_trade}
 use Rattle.cns_history.specs.Entries.{trade_of}
 use Rattle.std.proofs.lemmas.List.{length-take}
 use Rattle.std.proofs.lemmas.Option.{slice_get_within}
@@ -24,21 +24,10 @@ pub entry_noted : (ns : List ℕ) (n : ℕ) (t : Taken) (x : Trade) (fs : List F
 entry_noted ns n t x [] is = refl
 entry_noted ns n t x (f ∷ fs) is = cc (is, entry_noted ns n t x fs is)
 
--- one that has none of the references
-pub not_among : (ns : List ℕ) (n : ℕ) (t : Taken) (x : Trade) (fs : List Finding) → trade_of t ≡ Some x → list_any (λ r. r == x.reference) (filter_map reference_in fs) ≡ false
-    → fs ≡ map (with_entry ns n t) fs
-not_among ns n t x [] is none = refl
-not_among ns n t x (f ∷ fs) is none = grind (arith, is, not_among ns n t x fs is)
-
 -- one that is no accepted trade
 pub no_trade : (ns : List ℕ) (n : ℕ) (t : Taken) (fs : List Finding) → trade_of t ≡ None → fs ≡ map (with_entry ns n t) fs
 no_trade ns n t [] is = refl
 no_trade ns n t (f ∷ fs) is = cc (is, no_trade ns n t fs is)
-
--- what is found changes no reference
-pub same_references : (ns : List ℕ) (ts : List Taken) (fs : List Finding) → filter_map reference_in (map (with_found ns ts) fs) ≡ filter_map reference_in fs
-same_references ns ts [] = refl
-same_references ns ts (f ∷ fs) = cc (same_references ns ts fs)
 
 module _ (ns : List ℕ) (H : List Taken) (place : ℕ) (le : 1 ≤ place) (t : Taken) (there : entry_at H place ≡ Some t) where
   abbrev before : List Taken

@@ -27,10 +27,6 @@ unfoldable pub or_first : List ℕ → ℕ → List Taken → Option ℕ → Opt
 or_first invalid n [] r had = had
 or_first invalid n (t ∷ ts) r had = or_first invalid (n + 1) ts r (or_entry invalid (n + 1) t r had)
 
--- the reference of a refused trade
-abbrev pub reference_in : Finding → Option ℕ
-reference_in f = f.named.reference
-
 -- a finding with it: of a trade, of an entry, and of all entries
 abbrev pub with_trade : List ℕ → ℕ → Trade → Finding → Finding
 with_trade invalid n t f = record f { accepted = or_trade invalid n t f.named.reference f.accepted }

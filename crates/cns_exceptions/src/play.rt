@@ -153,7 +153,7 @@ pub fn play_first(
         &mut lines,
     )?;
     survey.rank()?;
-    survey.look_back(&book)?;
+    survey.look_back(&book);
     Ok(Played {
         survey,
         lines,

@@ -194,13 +194,10 @@ impl Survey {
     }
 
     /// Notes in the exceptions the accepted trades that have their references, of the book's history.
-    pub(crate) fn look_back(&mut self, book: &ReplayBook) -> Result<(), NoMemory>
-        ensures { OnOk result (known self.new ≡ looked_back book.now.log.history (known self.old)) }
+    pub(crate) fn look_back(&mut self, book: &ReplayBook)
+        ensures { known self.new ≡ looked_back book.now.log.history (known self.old) }
     {
-        let alloc = *self.findings.allocator();
-        let invalid = self.invalid.as_slice();
-        note_accepted(alloc, book, invalid, self.findings.as_mut_slice())?;
-        Ok(())
+        note_accepted(book, self.invalid.as_slice(), self.findings.as_mut_slice());
     }
 }
 

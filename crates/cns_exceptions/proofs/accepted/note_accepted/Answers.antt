@@ -1,14 +1,9 @@
-use Rattle.cns_exceptions.proofs.Common.{◌≡◌, ◌∙◌, ◌-◌, ◌^◌, ap, sym, arith, filter_map, map, reference_in, reverse, take, with_entry, with_found}
-use Rattle.cns_exceptions.proofs.AcceptedLemmas.{entries_found, entry_found, none_found, same_references}
+use Rattle.cns_exceptions.proofs.Common.{◌≡◌, ◌∙◌, ◌-◌, ◌^◌, ap, sym, arith, map, reverse, take, with_entry, with_found}
+use Rattle.cns_exceptions.proofs.AcceptedLemmas.{entries_found, entry_found, none_found}
 use Rattle.cns_exceptions.proofs.accepted.note_accepted.Goals as goal
 
 pub loop-place-init : goal.loop-place-init
 loop-place-init c = sym (none_found c.args.invalid.now c.args.findings.now)
-
-pub note_entry-requires : goal.note_entry-requires
-note_entry-requires c =
-    c.as_slice-references.ensures.value ∙ c.in_ok-references.ensures ∙ sym (same_references c.args.invalid.now _ c.args.findings.now)
-    ∙ ap (filter_map reference_in) (sym c.loop-place.invariant)
 
 pub loop-place-preserved : goal.loop-place-preserved
 loop-place-preserved c =

@@ -5,4 +5,4 @@ use Rattle.cns_exceptions.proofs.survey.Survey.look_back.Goals as goal
 pub returns : goal.returns
 returns c =
     findings_looked_for c.args.self.now c.args.book.now.log.history c.note_accepted.new.findings (sym c.args.self.now.findings.ok.0)
-    (rw (c.as_slice-invalid.ensures.value, c.as_mut_slice.ensures.value) at c.in_ok-note_accepted.ensures)
+    (rw (c.as_slice.ensures.value, c.as_mut_slice.ensures.value) at c.note_accepted.ensures)
