@@ -1,8 +1,7 @@
 // The page that is asked for, of the records of an input.
 ghost use Rattle.std.specs.Prelude.{◌≡◌, IfOk, OnOk};
 ghost use Rattle.std.specs.Io.KnownBytes.{Appends};
-ghost use Rattle.cns_page.specs.Closed.{is_folder};
-ghost use Rattle.cns_page.specs.Asked.{HasKept, HasPage, IsClosedPage, IsDayOf, IsPage, IsWholePage, Keeps as KeepsAsked, Writes};
+ghost use Rattle.cns_page.specs.Asked.{HasKept, HasPage, IsClosedPage, IsDayOf, IsPage, IsWholePage};
 
 use crate::account::own_page;
 use crate::closed::{ClosedDay, closed_day, is_folder};
@@ -93,25 +92,6 @@ fn write_page<O: Write>(page: &[u8], output: &mut O) -> Result<(), Fault>
     }
 }
 
-// Writes the page that is asked for, of its records, or hands the pages for a folder to its keeper.
-fn show<K: Keeps, O: Write>(
-    alloc: Global,
-    asked: &Asked,
-    source: &Source,
-    keeper: &mut K,
-    output: &mut O,
-) -> Result<(), Fault>
-    ensures page { OnOk result (Writes (is_folder asked.now.about) asked.now source.now (O.contents output.old) (O.contents output.new)) }
-    ensures kept { OnOk result (KeepsAsked (is_folder asked.now.about) asked.now source.now (K.kept keeper.old) (K.kept keeper.new)) }
-{
-    if is_folder(asked.about) {
-        let day = closed_day(alloc, asked, source)?;
-        return keep_day(alloc, &day, keeper);
-    }
-    let page = page_of(alloc, asked, source)?;
-    write_page(page.as_slice(), output)
-}
-
 /// Writes the page that is asked for, of the records of an input, and flushes it; or hands the pages for a folder to its keeper. A page is
 /// made whole before any of it is written.
 ///
@@ -131,5 +111,10 @@ pub(crate) fn make<K: Keeps, O: Write>(
     ensures kept { OnOk result (HasKept asked.now input (K.kept keeper.old) (K.kept keeper.new)) }
 {
     let source = source_of(alloc, asked, input)?;
-    show(alloc, asked, &source, keeper, output)
+    if is_folder(asked.about) {
+        let day = closed_day(alloc, asked, &source)?;
+        return keep_day(alloc, &day, keeper);
+    }
+    let page = page_of(alloc, asked, &source)?;
+    write_page(page.as_slice(), output)
 }
